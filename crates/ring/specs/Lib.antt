@@ -1,0 +1,4 @@
+pub mod CoefficientRing
+pub mod Derived
+pub mod Within
+pub mod Pair
