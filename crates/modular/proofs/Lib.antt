@@ -1,0 +1,9 @@
+pub mod Leasts
+pub mod Divisors
+pub mod Congruences
+pub mod Turns
+pub mod Multipliers
+pub mod Sums
+pub mod Quotients
+pub mod Cofactors
+pub mod Residues

@@ -1,0 +1,4 @@
+pub mod Least
+pub mod Divisor
+pub mod Modular
+pub mod Solved
