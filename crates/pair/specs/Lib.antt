@@ -1,0 +1,3 @@
+pub mod Paired
+pub mod Made
+pub mod Split
