@@ -67,6 +67,7 @@ module _ (n a b : ℕ) (positive : 0 < n) where
           let low : Alike d (u * a + v * b) g = alike-by-divisor n d (u * a + v * b) g (divisor-right b n positive) h in
           let gone : Alike d (v * b) 0 = alike-zero d (v * b) (dvd-mul-left-of-dvd d (divisor-left b n positive) v) in
           ap (λ z. z % d) (omega arith) ∙ sym (alike-sum d (u * a) (u * a) (v * b) 0 refl gone) ∙ low
+
       go : (o : Option ℕ) → least (combines n a b u) n ≡ o → isSome o ≡ true → Alike d (u * a) g
       go None e t = absurd (let z : _≡_ {A = ℕ} 0 1 = cc in omega arith)
       go (Some v) e t = solved v (eqb-true _ _ (least-some (combines n a b u) n v e .1))
@@ -118,7 +119,7 @@ module _ (n a b : ℕ) (positive : 0 < n) where
   pub cofactors-combine : Alike n (left-cofactor n a b * a + right-cofactor n a b * b) g
   cofactors-combine =
       completes (left-cofactor n a b) (right-cofactor n a b)
-        (ap (λ z. (z * b) % n) right-value ∙ multiplier-solves b n (missing (left-cofactor n a b)) (right-found .0) (right-found .1) .1)
+      (ap (λ z. (z * b) % n) right-value ∙ multiplier-solves b n (missing (left-cofactor n a b)) (right-found .0) (right-found .1) .1)
 
   -- the divisor of the three numbers divides each of them
   pub divides-first : g ∣ a

@@ -120,7 +120,7 @@ pub record Solves (b n e w : ℕ) : Type 0 where
 
 -- where e divides c, and where it does not
 solves-by : (b n c w : ℕ) → 0 < n → Factor b n w → (t : Bool) → eqb (c % common-divisor b n) 0 ≡ t
-  → multiplier n b c ≡ cond t (Some (w * (c / common-divisor b n) % (n / common-divisor b n))) None
+    → multiplier n b c ≡ cond t (Some (w * (c / common-divisor b n) % (n / common-divisor b n))) None
 solves-by b n c w p f true e = multiplier-is b n p c w (dvd-of-mod-eq-zero (common-divisor b n) (eqb-true _ _ e)) f
 solves-by b n c w p f false e = multiplier-none b n p c (λ k. eqb-false _ _ e (mod-eq-zero-of-dvd (common-divisor b n) k))
 

@@ -34,8 +34,8 @@ module _ (n : ℕ) (two : 2 ≤ n) where
   inner-says : (a b : ℕ) → Says a b (inner a b)
   inner-says a b =
       cond-both (eqb a b) (Some 1) (multiplier n b a) (Says a b)
-        (λ t. let e = eqb-true a b t in (two, ap (λ z. z % n) (omega arith)))
-        (λ _. multiplier-says a b (multiplier n b a) refl)
+      (λ t. let e = eqb-true a b t in (two, ap (λ z. z % n) (omega arith)))
+      (λ _. multiplier-says a b (multiplier n b a) refl)
 
   quotient-says : (a b : ℕ) → a < n → b < n → (o : Option ℕ) → modular-quotient n a b ≡ o → Says a b o
   quotient-says a b ha hb o e = subst (Says a b) (sym (both-within-inside n a b (inner a b) None ha hb) ∙ e) (inner-says a b)
@@ -43,8 +43,8 @@ module _ (n : ℕ) (two : 2 ≤ n) where
   pub quotient-below : (a b q : ℕ) → modular-quotient n a b ≡ Some q → q < n
   quotient-below a b =
       both-within-either (λ o. (q : ℕ) → o ≡ Some q → q < n) n a b (inner a b) None
-        (λ _ _ q e. subst (Says a b) e (inner-says a b) .0)
-        (λ q e. absurd (none-is-not-some q e))
+      (λ _ _ q e. subst (Says a b) e (inner-says a b) .0)
+      (λ q e. absurd (none-is-not-some q e))
 
   pub quotient-outside-left : (a b : ℕ) → n ≤ a → modular-quotient n a b ≡ None
   quotient-outside-left a b h = both-within-outside-left n a b (inner a b) None h

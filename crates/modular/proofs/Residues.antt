@@ -32,7 +32,7 @@ module _ (n : ℕ) (two : 2 ≤ n) where
 
   -- the gcd of codes, worked out from a divisor e of b and n by two solutions
   pub gcd-worked-out : (a b e g u v : ℕ) → a < n → b < n → e ≡ common-divisor b n → g ≡ common-divisor a e → u ≡ valueOr (multiplier e a g) 0
-    → v ≡ valueOr (multiplier n b (g + (n - u * a % n))) 0 → record { g = g % n; u = u; v = v } ≡ modular-gcd n a b
+      → v ≡ valueOr (multiplier n b (g + (n - u * a % n))) 0 → record { g = g % n; u = u; v = v } ≡ modular-gcd n a b
   gcd-worked-out a b e g u v ha hb he hg hu hv =
       let ge : g ≡ divisor-of-three n a b = hg ∙ ap (common-divisor a) he in
       let ue : u ≡ left-cofactor n a b = hu ∙ ap₂ (λ x y. valueOr (multiplier x a y) 0) he ge ∙ sym (left-is n a b positive) in
@@ -42,8 +42,8 @@ module _ (n : ℕ) (two : 2 ≤ n) where
   pub gcd-below : (a b : ℕ) → (modular-gcd n a b .g < n) × (modular-gcd n a b .u < n) × (modular-gcd n a b .v < n)
   gcd-below a b =
       both-within-either (λ x. (x .g < n) × (x .u < n) × (x .v < n)) n a b (inner a b) nothing
-        (λ _ _. (rest-below n two (divisor-of-three n a b), left-below n a b positive, right-below n a b positive))
-        (positive, positive, positive)
+      (λ _ _. (rest-below n two (divisor-of-three n a b), left-below n a b positive, right-below n a b positive))
+      (positive, positive, positive)
 
   pub gcd-outside-left : (a b : ℕ) → n ≤ a → modular-gcd n a b ≡ nothing
   gcd-outside-left a b h = both-within-outside-left n a b (inner a b) nothing h
@@ -67,16 +67,16 @@ module _ (n : ℕ) (two : 2 ≤ n) where
       inside : divisor-of-three n a b % n ≡ combination a b (inner a b)
       inside =
           same-code n two _ _ (rest-below n two (divisor-of-three n a b)) (sum-below n two _ _)
-            (mod-mod (divisor-of-three n a b) n ∙ sym (cofactors-combine n a b positive)
-              ∙ sym (sum-alike n two _ _ (left-cofactor n a b * a) (right-cofactor n a b * b) (product-below n two _ a) (product-below n two _ b)
-                  (product-alike n two _ a _ a (left-below n a b positive) ha refl refl)
-                  (product-alike n two _ b _ b (right-below n a b positive) hb refl refl)))
+          (mod-mod (divisor-of-three n a b) n ∙ sym (cofactors-combine n a b positive)
+          ∙ sym (sum-alike n two _ _ (left-cofactor n a b * a) (right-cofactor n a b * b) (product-below n two _ a) (product-below n two _ b)
+          (product-alike n two _ a _ a (left-below n a b positive) ha refl refl)
+          (product-alike n two _ b _ b (right-below n a b positive) hb refl refl)))
 
   -- what divides a number divides its code
   divided : (x e : ℕ) → x < n → e ∣ x → Multiple n (modular-product n) x (e % n)
   divided x e hx h =
       multiple-from n two x (e % n) (x / e) hx (rest-below n two e)
-        (alike-times n (e % n) e (x / e) (mod-mod e n) ∙ ap (λ z. z % n) (mul-comm (x / e) e ∙ mul-div-cancel' e h))
+      (alike-times n (e % n) e (x / e) (mod-mod e n) ∙ ap (λ z. z % n) (mul-comm (x / e) e ∙ mul-div-cancel' e h))
 
   pub gcd-divides-left : (a b : ℕ) → a < n → b < n → Multiple n (modular-product n) a (modular-gcd n a b .g)
   gcd-divides-left a b ha hb = subst (λ x. Multiple n (modular-product n) a (x .g)) (sym (gcd-inside a b ha hb)) (divided a (divisor-of-three n a b) ha (divides-first n a b positive))
@@ -96,8 +96,8 @@ module _ (n : ℕ) (two : 2 ≤ n) where
   pub annihilator-annihilates : (a : ℕ) → a < n → modular-product n (modular-annihilator n a) a ≡ 0
   annihilator-annihilates a h =
       same-code n two _ _ (product-below n two _ a) positive
-        (product-alike n two _ a (period a n positive) a (annihilator-below a) h (annihilator-alike a h) refl
-          ∙ ap (λ z. z % n) (omega arith) ∙ zero-of-period a n positive 1)
+      (product-alike n two _ a (period a n positive) a (annihilator-below a) h (annihilator-alike a h) refl
+      ∙ ap (λ z. z % n) (omega arith) ∙ zero-of-period a n positive 1)
 
   pub annihilator-divides : (a e : ℕ) → a < n → e < n → modular-product n e a ≡ 0 → Multiple n (modular-product n) e (modular-annihilator n a)
   annihilator-divides a e ha he z =
@@ -105,7 +105,7 @@ module _ (n : ℕ) (two : 2 ≤ n) where
       let gone : Alike n (e * a) 0 = sym (product-alike n two e a e a he ha refl refl) ∙ ap (λ y. y % n) z in
       let whole : k * (e / k) ≡ e = mul-div-cancel' k (period-of-zero a n positive e gone) in
       multiple-from n two e _ (e / k) he (annihilator-below a)
-        (alike-times n _ k (e / k) (annihilator-alike a ha) ∙ ap (λ y. y % n) (mul-comm (e / k) k ∙ whole))
+      (alike-times n _ k (e / k) (annihilator-alike a ha) ∙ ap (λ y. y % n) (mul-comm (e / k) k ∙ whole))
 
   residue-inside : (a b : ℕ) → a < n → b < n → modular-residue n a b ≡ a % common-divisor b n
   residue-inside a b ha hb = both-within-inside n a b (a % common-divisor b n) 0 ha hb
@@ -157,5 +157,5 @@ module _ (n : ℕ) (two : 2 ≤ n) where
   pub residue-by-associate : (a b c : ℕ) → a < n → b < n → c < n → Multiple n (modular-product n) b c → Multiple n (modular-product n) c b → modular-residue n a b ≡ modular-residue n a c
   residue-by-associate a b c ha hb hc m k =
       residue-inside a b ha hb
-        ∙ ap (λ z. a % z) (same-divisors b n c n positive positive (carried b c hb k) (carried c b hc m))
-        ∙ sym (residue-inside a c ha hc)
+      ∙ ap (λ z. a % z) (same-divisors b n c n positive positive (carried b c hb k) (carried c b hc m))
+      ∙ sym (residue-inside a c ha hc)

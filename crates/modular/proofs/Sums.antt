@@ -56,14 +56,14 @@ module _ (n : ℕ) (two : 2 ≤ n) where
   pub sum-commutes : (a b : ℕ) → a < n → b < n → modular-sum n a b ≡ modular-sum n b a
   sum-commutes a b ha hb =
       same-code _ _ (sum-below a b) (sum-below b a)
-        (sum-alike a b a b ha hb refl refl ∙ ap (λ z. z % n) (omega arith) ∙ sym (sum-alike b a b a hb ha refl refl))
+      (sum-alike a b a b ha hb refl refl ∙ ap (λ z. z % n) (omega arith) ∙ sym (sum-alike b a b a hb ha refl refl))
 
   pub sum-associates : (a b c : ℕ) → a < n → b < n → c < n → modular-sum n (modular-sum n a b) c ≡ modular-sum n a (modular-sum n b c)
   sum-associates a b c ha hb hc =
       same-code _ _ (sum-below (modular-sum n a b) c) (sum-below a (modular-sum n b c))
-        (sum-alike (modular-sum n a b) c (a + b) c (sum-below a b) hc (sum-alike a b a b ha hb refl refl) refl
-          ∙ ap (λ z. z % n) (omega arith)
-          ∙ sym (sum-alike a (modular-sum n b c) a (b + c) ha (sum-below b c) refl (sum-alike b c b c hb hc refl refl)))
+      (sum-alike (modular-sum n a b) c (a + b) c (sum-below a b) hc (sum-alike a b a b ha hb refl refl) refl
+      ∙ ap (λ z. z % n) (omega arith)
+      ∙ sym (sum-alike a (modular-sum n b c) a (b + c) ha (sum-below b c) refl (sum-alike b c b c hb hc refl refl)))
 
   pub sum-with-zero : (a : ℕ) → a < n → modular-sum n a 0 ≡ a
   sum-with-zero a h = same-code _ _ (sum-below a 0) h (sum-alike a 0 a 0 h positive refl refl ∙ ap (λ z. z % n) (omega arith))
@@ -71,20 +71,20 @@ module _ (n : ℕ) (two : 2 ≤ n) where
   pub sum-with-negative : (a : ℕ) → a < n → modular-sum n a (modular-negative n a) ≡ 0
   sum-with-negative a h =
       same-code _ _ (sum-below a (modular-negative n a)) positive
-        (sum-alike a (modular-negative n a) a (n - a) h (negative-below a) refl (negative-alike a h)
-          ∙ ap (λ z. z % n) (omega arith) ∙ mod-self n ∙ sym (zero-mod n))
+      (sum-alike a (modular-negative n a) a (n - a) h (negative-below a) refl (negative-alike a h)
+      ∙ ap (λ z. z % n) (omega arith) ∙ mod-self n ∙ sym (zero-mod n))
 
   pub product-commutes : (a b : ℕ) → a < n → b < n → modular-product n a b ≡ modular-product n b a
   product-commutes a b ha hb =
       same-code _ _ (product-below a b) (product-below b a)
-        (product-alike a b a b ha hb refl refl ∙ ap (λ z. z % n) (omega arith) ∙ sym (product-alike b a b a hb ha refl refl))
+      (product-alike a b a b ha hb refl refl ∙ ap (λ z. z % n) (omega arith) ∙ sym (product-alike b a b a hb ha refl refl))
 
   pub product-associates : (a b c : ℕ) → a < n → b < n → c < n → modular-product n (modular-product n a b) c ≡ modular-product n a (modular-product n b c)
   product-associates a b c ha hb hc =
       same-code _ _ (product-below (modular-product n a b) c) (product-below a (modular-product n b c))
-        (product-alike (modular-product n a b) c (a * b) c (product-below a b) hc (product-alike a b a b ha hb refl refl) refl
-          ∙ ap (λ z. z % n) (omega arith)
-          ∙ sym (product-alike a (modular-product n b c) a (b * c) ha (product-below b c) refl (product-alike b c b c hb hc refl refl)))
+      (product-alike (modular-product n a b) c (a * b) c (product-below a b) hc (product-alike a b a b ha hb refl refl) refl
+      ∙ ap (λ z. z % n) (omega arith)
+      ∙ sym (product-alike a (modular-product n b c) a (b * c) ha (product-below b c) refl (product-alike b c b c hb hc refl refl)))
 
   pub product-with-one : (a : ℕ) → a < n → modular-product n a 1 ≡ a
   product-with-one a h = same-code _ _ (product-below a 1) h (product-alike a 1 a 1 h two refl refl ∙ ap (λ z. z % n) (omega arith))
@@ -92,9 +92,9 @@ module _ (n : ℕ) (two : 2 ≤ n) where
   pub product-over-sum : (a b c : ℕ) → a < n → b < n → c < n → modular-product n a (modular-sum n b c) ≡ modular-sum n (modular-product n a b) (modular-product n a c)
   product-over-sum a b c ha hb hc =
       same-code _ _ (product-below a (modular-sum n b c)) (sum-below (modular-product n a b) (modular-product n a c))
-        (product-alike a (modular-sum n b c) a (b + c) ha (sum-below b c) refl (sum-alike b c b c hb hc refl refl)
-          ∙ ap (λ z. z % n) (omega arith)
-          ∙ sym (sum-alike (modular-product n a b) (modular-product n a c) (a * b) (a * c) (product-below a b) (product-below a c) (product-alike a b a b ha hb refl refl) (product-alike a c a c ha hc refl refl)))
+      (product-alike a (modular-sum n b c) a (b + c) ha (sum-below b c) refl (sum-alike b c b c hb hc refl refl)
+      ∙ ap (λ z. z % n) (omega arith)
+      ∙ sym (sum-alike (modular-product n a b) (modular-product n a c) (a * b) (a * c) (product-below a b) (product-below a c) (product-alike a b a b ha hb refl refl) (product-alike a c a c ha hc refl refl)))
 
   pub one-is-not-zero : _≡_ {A = ℕ} 1 0 → ⊥
   one-is-not-zero e = omega arith

@@ -32,7 +32,10 @@ pub(crate) fn divisor_with_factor(b: u32, n: u32) -> Cofactor
     ensures solves { λ r. ⌜ ((c : ℕ) → multiplier n b c ≡ solved n c (r .divisor) (r .factor)) ⌝ }
 {
     if n == 0 {
-        return Cofactor { divisor: 0, factor: 0 };
+        return Cofactor {
+            divisor: 0,
+            factor: 0,
+        };
     }
     let mut r = n;
     let mut s = b % n;
@@ -46,5 +49,8 @@ pub(crate) fn divisor_with_factor(b: u32, n: u32) -> Cofactor
         x = y;
         y = z;
     }
-    Cofactor { divisor: r, factor: x }
+    Cofactor {
+        divisor: r,
+        factor: x,
+    }
 }

@@ -4,13 +4,12 @@ ghost use mathlib.Core.Path.{_≡_};
 ghost use Rattle.std.specs.Options.{valueOr};
 ghost use Rattle.modular.specs.Modular.{modular-gcd, multiplier as multiplier-of};
 ghost use Rattle.residue.specs.Residues.{residues};
+use crate::modulus::ResidueRing;
 use modular::common_divisor;
 use modular::multiplier;
 use ring::Bezout;
 use ring::Code;
 use ring::Ring;
-
-use crate::modulus::ResidueRing;
 
 /// The least x below n for which x·b and c are alike modulo n, or 0.
 fn multiplier_or_zero(n: u32, b: u32, c: u32) -> u32
@@ -36,7 +35,11 @@ fn least_cofactors(n: u32, a: u32, b: u32) -> Bezout
     let u = multiplier_or_zero(right, a, g);
     let missing = g + (n - u * a % n);
     let v = multiplier_or_zero(n, b, missing);
-    Bezout { g: (g % n) as Code, u: u as Code, v: v as Code }
+    Bezout {
+        g: (g % n) as Code,
+        u: u as Code,
+        v: v as Code,
+    }
 }
 
 pub impl Ring for ResidueRing as Modular {

@@ -7,14 +7,12 @@ use crate::Ring;
 /// Every ring keeps the laws of differences.
 fn difference_laws<R: Ring>(ring: &R)
     ensures { λ _. ⌜ DifferenceLaws (R·Ring .meaning (now (ring .entry))) ⌝ }
-{
-}
+{}
 
 /// Every ring keeps the laws of divisibility.
 fn divisibility_laws<R: Ring>(ring: &R)
     ensures { λ _. ⌜ DivisibilityLaws (R·Ring .meaning (now (ring .entry))) ⌝ }
-{
-}
+{}
 
 /// a − b, the code that added to b gives a.
 pub fn difference<R: Ring>(ring: &R, a: Code, b: Code) -> Code

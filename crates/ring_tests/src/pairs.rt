@@ -1,4 +1,5 @@
 //! Pair rings against brute force on each side, and what every ring keeps at a residue ring, a pair and a pair of pairs.
+use crate::brute;
 use pair::PairRing;
 use pair::Pairwise;
 use refusal::Refusal;
@@ -9,8 +10,6 @@ use ring::Ring;
 use ring::difference;
 use ring::divides;
 use std::test::*;
-
-use crate::brute;
 
 /// The two sizes of a pair ring, the right one not 0.
 #[derive(Clone, Copy)]
@@ -106,7 +105,10 @@ fn nothing_for_no_code<R: Ring>(ring: &R, a: u16, b: u16) -> Result<(), Fail> {
 /// Compares every answer of a pair of residue rings with brute force, for all codes and some numbers past them.
 fn pair_agrees(p: u16, q: u16) -> Result<(), Fail> {
     let ring = PairRing::new(ResidueRing::new(p as u32)?, ResidueRing::new(q as u32)?)?;
-    let sizes = Sizes { left: p as u64, right: q as u64 };
+    let sizes = Sizes {
+        left: p as u64,
+        right: q as u64,
+    };
     let past = p.wrapping_mul(q).wrapping_add(3);
     for a in 0..past {
         for b in 0..past {

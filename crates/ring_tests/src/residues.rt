@@ -1,11 +1,10 @@
 //! The residue ring against brute force, and at n = 65,536.
+use crate::brute;
 use refusal::RefusalDebug;
 use residue::Modular;
 use residue::ResidueRing;
 use ring::Ring;
 use std::test::*;
-
-use crate::brute;
 
 /// Compares every answer of the ring modulo n for the numbers a and b.
 fn answers_agree(ring: &ResidueRing, n: u64, a: u16, b: u16) -> Result<(), Fail> {
@@ -14,7 +13,10 @@ fn answers_agree(ring: &ResidueRing, n: u64, a: u16, b: u16) -> Result<(), Fail>
     check_eq(ring.sum(a, b) as u64, brute::sum(n, x, y)).note("sum")?;
     check_eq(ring.negative(a) as u64, brute::negative(n, x)).note("negative")?;
     check_eq(ring.product(a, b) as u64, brute::product(n, x, y)).note("product")?;
-    check_eq(brute::widened(ring.quotient(a, b)), brute::quotient(n, x, y)).note("quotient")?;
+    check_eq(
+        brute::widened(ring.quotient(a, b)),
+        brute::quotient(n, x, y),
+    ).note("quotient")?;
     check_eq(brute::parts(ring.gcd(a, b)), brute::gcd(n, x, y)).note("gcd")?;
     check_eq(ring.annihilator(a) as u64, brute::annihilator(n, x)).note("annihilator")?;
     check_eq(ring.residue(a, b) as u64, brute::residue(n, x, y)).note("residue")

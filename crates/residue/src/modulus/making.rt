@@ -3,13 +3,13 @@ ghost use Prim.Native.Nat.{_<_};
 ghost use lib.Dec.{ltb};
 ghost use mathlib.Core.Path.{_≡_};
 ghost use Rattle.residue.specs.Made.{granted, modulus-of};
-use refusal::Refusal;
-
 use super::ResidueRing;
+use refusal::Refusal;
 use ring::Code;
 
 /// The fewest codes that a ring has, and the most.
 const MIN_SIZE: u32 = 2;
+
 const MAX_SIZE: u32 = 65_536;
 
 impl ResidueRing {
