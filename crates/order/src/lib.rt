@@ -1,0 +1,1 @@
+//! What a term and a term order mean: definitions and their laws, with no code.
