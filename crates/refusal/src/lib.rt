@@ -7,6 +7,16 @@ ghost use Rattle.refusal.specs.Number.{number};
 pub enum Refusal {
     /// The ring would not have 2 to 65,536 codes.
     RingSize,
+    /// A formula has more than 64 monomials.
+    TooManyMonomials,
+    /// A coefficient is 0 or not below the size of the ring.
+    CoefficientOutOfRange,
+    /// The terms of a formula do not fall strictly.
+    TermsNotFalling,
+    /// An exponent would pass 255.
+    ExponentTooLarge,
+    /// A sum would have more than 64 monomials.
+    SumTooLong,
 }
 
 impl Refusal {
@@ -16,6 +26,11 @@ impl Refusal {
     {
         match self {
             Refusal::RingSize => 1,
+            Refusal::TooManyMonomials => 2,
+            Refusal::CoefficientOutOfRange => 3,
+            Refusal::TermsNotFalling => 4,
+            Refusal::ExponentTooLarge => 8,
+            Refusal::SumTooLong => 9,
         }
     }
 }

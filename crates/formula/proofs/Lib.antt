@@ -1,0 +1,10 @@
+pub mod Checking
+pub mod Sums
+pub mod Polynomials
+pub mod Puts
+pub mod Merging
+pub mod Parts
+pub mod Additions
+pub mod Formulas
+pub mod Adding
+pub mod Texts
