@@ -1,0 +1,5 @@
+pub mod Polynomial
+pub mod Combination
+pub mod Basis
+pub mod Criterion
+pub mod Laws
