@@ -1,0 +1,5 @@
+pub mod Answered
+pub mod Decimal
+pub mod Rings
+pub mod Texts
+pub mod Words
