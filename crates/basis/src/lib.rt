@@ -1,4 +1,6 @@
 //! The mathematics of strong bases, for every coefficient ring and every term order: definitions and theorems, with no computation.
+#![tactic(auto)]
+
 ghost use Rattle.basis.specs.Laws.{CriterionMakesBasis, CriticalPolynomials, LinesStandForRelations, OneHead, RemaindersAreUnique};
 
 use ring::Ring;

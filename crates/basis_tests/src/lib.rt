@@ -1,4 +1,6 @@
 //! Examples that show that the theorems on strong bases say something.
+#![tactic(auto)]
+
 ghost use Rattle.basis_tests.specs.SixCodes.{ALineIsLost, ThreeLines};
 
 /// Over six codes, 2a² + 3a + 1, 3a + 3 and a² + 3a + 2 meet the criterion, and are a strong basis of the first alone.

@@ -1,4 +1,6 @@
 //! Formulas, which are lists of packed monomials: their checks, and adding a step to one.
+#![tactic(auto)]
+
 mod checks;
 mod choice;
 mod laws;

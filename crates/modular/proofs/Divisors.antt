@@ -3,7 +3,6 @@ use Rattle.std.proofs.Common.{◌≡◌, ℕ, ◌%◌, ◌<◌, ◌≤◌, Bool,
 use Prim.Native.Nat.{◌∣◌}
 use native.Mathlib.Nat.{le_of_dvd, dvd_of_mod-eq-zero, mod-eq-zero_of_dvd, dvd_refl, dvd-zero, dvd-mod_iff, one-dvd}
 use Rattle.std.proofs.lemmas.Bool.{and_parts, and_from, eqb-true, eq-eqb}
-use Rattle.modular.specs.Least.{greatest}
 use Rattle.modular.specs.Divisor.{divides, common_divisor}
 use Rattle.modular.proofs.Leasts.{Greatest, greatest_is}
 

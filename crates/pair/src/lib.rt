@@ -1,6 +1,8 @@
 //! Pairs of coefficient rings: two rings that work side by side as one.
+#![tactic(auto)]
+
 ghost use Rattle.std.specs.Prelude.{◌≡◌, ◌<◌, ◌≤◌};
-ghost use Rattle.ring.specs.Pair.{pair_size, joined as Joined_of};
+ghost use Rattle.ring.specs.Pair.{pair_size, joined as joined_of};
 ghost use Rattle.pair.specs.Made.{made};
 ghost use Rattle.pair.specs.Paired.{few_enough, largest_size};
 ghost use Rattle.pair.specs.Split.{both_split, split};
@@ -13,7 +15,7 @@ use ring::{Code, Ring};
 /// The most codes that a ring has.
 const MAX_SIZE: u64 = 65_536;
 
-/// The pairs of a code of one ring and a code of another. With Q the size of the right ring, (x, y) has code typeof.x.Q + y.
+/// The pairs of a code of one ring and a code of another. With Q the size of the right ring, (x, y) has code x·Q + y.
 #[derive(Drop)]
 pub struct PairRing<L, R> {
     left: L,
@@ -81,7 +83,7 @@ impl<L: Ring, R: Ring> PairRing<L, R> {
     fn joined(&self, x: Code, y: Code) -> Code
         requires few_enough { pair_size (L.Ring.meaning self.now.left) (R.Ring.meaning self.now.right) ≤ largest_size }
         requires codes { (x < (L.Ring.meaning self.now.left).size) × (y < (R.Ring.meaning self.now.right).size) }
-        ensures { result ≡ Joined_of (L.Ring.meaning self.now.left) (R.Ring.meaning self.now.right) x y }
+        ensures { result ≡ joined_of (L.Ring.meaning self.now.left) (R.Ring.meaning self.now.right) x y }
     {
         (x as u32 * self.right.size() + y as u32) as Code
     }

@@ -10,10 +10,9 @@ use Rattle.residue.specs.Made.{granted as residue_granted}
 use Rattle.pair.specs.declared.PairRing.{PairRing}
 use Rattle.pair.specs.Paired.{few_enough, paired, paired_if}
 use Rattle.pair.specs.Made.{made}
-use Rattle.panel.specs.declared.command.RingPlan.{RingPlan}
 use Rattle.panel.specs.declared.command.RingPlan.TheVariants as plan
 use Rattle.panel.specs.declared.rings.AnyRing.TheVariants.{Residue, Pair, Triple}
-use Rattle.panel.specs.Rings.{residue_meaning, pair_meaning, described, granted, pair_possible, possible, ring_size, seen, size_of}
+use Rattle.panel.specs.Rings.{residue_meaning, pair_meaning, described, granted, pair_possible, possible, ring_size, seen}
 
 -- what is granted by a test
 abbrev by_test : {A : Type 0} → Bool → A → Result A Refusal

@@ -1,4 +1,6 @@
 //! The program `panel`: it reads a script of commands, carries out each and prints what it did.
+#![tactic(auto)]
+
 ghost use Rattle.std.specs.Prelude.{◌≡◌, OnErr};
 
 mod answer;

@@ -1,4 +1,6 @@
 //! Why a call is refused: one enum for the whole library, and the number by which each case is known outside.
+#![tactic(auto)]
+
 ghost use Rattle.std.specs.Prelude.{◌≡◌};
 ghost use Rattle.refusal.specs.Number.{number};
 

@@ -1,4 +1,6 @@
 //! The residue ring: the integers modulo n, for n from 2 to 65,536.
+#![tactic(auto)]
+
 mod clock;
 mod modulus;
 mod operations;

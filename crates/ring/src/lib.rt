@@ -1,4 +1,6 @@
 //! Coefficient rings: what a ring means, the trait by which code reaches one, and what holds in every ring.
+#![tactic(auto)]
+
 mod derived;
 mod ring;
 

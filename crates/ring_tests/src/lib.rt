@@ -1,4 +1,6 @@
 //! Tests of the rings: every code of small rings against brute force, the corners of the largest ring, and numbers that are no codes.
+#![tactic(auto)]
+
 #[cfg(test)]
 mod brute;
 #[cfg(test)]

@@ -1,10 +1,12 @@
 //! Packed monomials of the registers a to f, and the orders by which terms are compared.
+#![tactic(auto)]
+
 mod comparing;
 mod kinds;
 mod laws;
 mod monomial;
-mod order;
+mod order_trait;
 
 pub use kinds::{Lex, Reverse, Weight};
 pub use monomial::{Monomial, Step};
-pub use order::Order;
+pub use order_trait::Order;

@@ -5,25 +5,25 @@ use Rattle.formula.specs.Held.{held}
 use Rattle.answer.proofs.Checks.{coefficient_refused, sum_decides}
 use Rattle.answer.proofs.formulas.sum.Goals as goal
 
-pub returns-in-err-check : goal.returns-in-err-check
-returns-in-err-check g c =
+pub returns-in_err-check : goal.returns-in_err-check
+returns-in_err-check g c =
     let a = c.args in
-    let p = err_from_is_err_and c.from-residual-in-err-check.result c.from-residual-in-err-check.ensures.1 in
-    let f = held c.in-ok-sum.sum in
-    let l = held c.in-ok-line.line in
-    rw (p.1, p.2) (coefficient_refused (g.R.Ring.meaning a.ring.now) (g.O.Order.meaning a.order.now) a.formula.now a.factor a.line.now f l c.in-err-check.field-0.0 c.in-ok-sum.ensures c.in-ok-line.ensures c.in-err-check.ensures.value)
+    let p = err_from_is_err_and c.from_residual-in_err-check.result c.from_residual-in_err-check.ensures.1 in
+    let f = held c.in_ok-sum.sum in
+    let l = held c.in_ok-line.line in
+    rw (p.1, p.2) (coefficient_refused (g.R.Ring.meaning a.ring.now) (g.O.Order.meaning a.order.now) a.formula.now a.factor a.line.now f l c.in_err-check.field-0.0 c.in_ok-sum.ensures c.in_ok-line.ensures c.in_err-check.ensures.value)
 
-pub returns-in-err-add-step : goal.returns-in-err-add-step
-returns-in-err-add-step g c =
+pub returns-in_err-add_step : goal.returns-in_err-add_step
+returns-in_err-add_step g c =
     let a = c.args in
-    let p = err_from_is_err_and c.from-residual-in-err-add-step.result c.from-residual-in-err-add-step.ensures.1 in
-    let f = held c.in-ok-sum.sum in
-    let l = held c.in-ok-line.line in
-    rw (p.1, p.2) (sum_decides (g.R.Ring.meaning a.ring.now) (g.O.Order.meaning a.order.now) a.formula.now a.factor a.line.now f l (Err c.in-err-add-step.field-0.0) c.in-ok-check.field-0 c.in-ok-sum.ensures c.in-ok-line.ensures c.in-ok-check.ensures.value c.in-err-add-step.ensures.value)
+    let p = err_from_is_err_and c.from_residual-in_err-add_step.result c.from_residual-in_err-add_step.ensures.1 in
+    let f = held c.in_ok-sum.sum in
+    let l = held c.in_ok-line.line in
+    rw (p.1, p.2) (sum_decides (g.R.Ring.meaning a.ring.now) (g.O.Order.meaning a.order.now) a.formula.now a.factor a.line.now f l (Err c.in_err-add_step.field-0.0) c.in_ok-check.field-0 c.in_ok-sum.ensures c.in_ok-line.ensures c.in_ok-check.ensures.value c.in_err-add_step.ensures.value)
 
 pub returns : goal.returns
 returns g c =
     let a = c.args in
-    let f = held c.in-ok-sum.sum in
-    let l = held c.in-ok-line.line in
-    sum_decides (g.R.Ring.meaning a.ring.now) (g.O.Order.meaning a.order.now) a.formula.now a.factor a.line.now f l (Ok (held c.add_step.new.work)) c.in-ok-check.field-0 c.in-ok-sum.ensures c.in-ok-line.ensures c.in-ok-check.ensures.value c.in-ok-add-step.ensures.value
+    let f = held c.in_ok-sum.sum in
+    let l = held c.in_ok-line.line in
+    sum_decides (g.R.Ring.meaning a.ring.now) (g.O.Order.meaning a.order.now) a.formula.now a.factor a.line.now f l (Ok (held c.add_step.new.work)) c.in_ok-check.field-0 c.in_ok-sum.ensures c.in_ok-line.ensures c.in_ok-check.ensures.value c.in_ok-add_step.ensures.value

@@ -1,6 +1,6 @@
-use Rattle.std.proofs.Common.{◌<◌, arith, rules}
+use Rattle.std.proofs.Common.{arith, rules}
 use Rattle.modular.proofs.Turns.{turn_start, turn_more, turn_end, turn_factor}
-use Rattle.modular.proofs.Multipliers.{Solves, solves_divisor, solves_none}
+use Rattle.modular.proofs.Multipliers.{solves_divisor, solves_none}
 use Rattle.modular.proofs.euclid.divisor_with_factor.Goals as goal
 
 pub returns-then-n-eq0 : goal.returns-then-n-eq0

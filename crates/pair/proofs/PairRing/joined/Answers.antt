@@ -3,5 +3,5 @@ use Rattle.std.proofs.Common.{rules}
 use Rattle.pair.proofs.Joining.{joined_is_small}
 use Rattle.pair.proofs.PairRing.joined.Goals as goal
 
-pub overflow-cast-result-3 : goal.overflow-cast-result-3
-overflow-cast-result-3 g c = search (rules, joined_is_small)
+pub overflow_cast-result-3 : goal.overflow_cast-result-3
+overflow_cast-result-3 g c = search (rules, joined_is_small)

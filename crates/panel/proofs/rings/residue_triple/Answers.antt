@@ -6,20 +6,20 @@ use Rattle.panel.specs.Rings.{described, seen}
 use Rattle.panel.proofs.Plans.{refused_pair, refused_last, made_triple}
 use Rattle.panel.proofs.rings.residue_triple.Goals as goal
 
-pub returns-in-err-left : goal.returns-in-err-left
-returns-in-err-left c =
+pub returns-in_err-left : goal.returns-in_err-left
+returns-in_err-left c =
     let a = c.args in
-    let p = err_from_is_err_and c.from-residual.result c.from-residual.ensures.1 in
-    rw (p.1, p.2) (refused_pair a.p a.q a.r c.in-err-left.field-0.0 c.in-err-left.ensures)
+    let p = err_from_is_err_and c.from_residual.result c.from_residual.ensures.1 in
+    rw (p.1, p.2) (refused_pair a.p a.q a.r c.in_err-left.field-0.0 c.in_err-left.ensures)
 
-pub returns-in-err-right : goal.returns-in-err-right
-returns-in-err-right c =
+pub returns-in_err-right : goal.returns-in_err-right
+returns-in_err-right c =
     let a = c.args in
-    let p = err_from_is_err_and c.from-residual-in-err-right.result c.from-residual-in-err-right.ensures.1 in
-    rw (p.1, p.2) (refused_last a.p a.q a.r c.in-err-right.field-0.0 c.in-err-right.ensures)
+    let p = err_from_is_err_and c.from_residual-in_err-right.result c.from_residual-in_err-right.ensures.1 in
+    rw (p.1, p.2) (refused_last a.p a.q a.r c.in_err-right.field-0.0 c.in_err-right.ensures)
 
 pub returns : goal.returns
 returns c =
     let a = c.args in
     ap (seen (λ ring. described (Triple ring))) c.new-2.ensures ∙
-    made_triple c.in-ok-left.left c.in-ok-right.right a.p a.q a.r c.in-ok-left.ensures c.in-ok-right.ensures
+    made_triple c.in_ok-left.left c.in_ok-right.right a.p a.q a.r c.in_ok-left.ensures c.in_ok-right.ensures

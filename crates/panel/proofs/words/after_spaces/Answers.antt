@@ -7,8 +7,8 @@ pub loop-rest-preserved : goal.loop-rest-preserved
 loop-rest-preserved c =
     after_spaces_more c.loop-rest.rest.now (search rules) (search rules) ∙ c.loop-rest.invariant
 
-pub returns-in-default : goal.returns-in-default
-returns-in-default c = search (rules, after_spaces_none)
+pub returns-in_default : goal.returns-in_default
+returns-in_default c = search (rules, after_spaces_none)
 
-pub returns-in-default·2 : goal.returns-in-default·2
-returns-in-default·2 c = search (rules, after_spaces_here)
+pub returns-in_default-2 : goal.returns-in_default-2
+returns-in_default-2 c = search (rules, after_spaces_here)

@@ -3,8 +3,8 @@ use Rattle.std.proofs.Common.{rules}
 use Rattle.script.proofs.Decimals.{digit_more, digit_none, digits_all, digits_all_large, number_in_some}
 use Rattle.script.proofs.decimal.decimal.Goals as goal
 
-pub returns-then-not-is-ascii-digit : goal.returns-then-not-is-ascii-digit
-returns-then-not-is-ascii-digit c = search (rules, digit_none, number_in_some)
+pub returns-then-not-is_ascii_digit : goal.returns-then-not-is_ascii_digit
+returns-then-not-is_ascii_digit c = search (rules, digit_none, number_in_some)
 
 pub loop-byte-preserved : goal.loop-byte-preserved
 loop-byte-preserved c = search (rules, digit_more)

@@ -14,7 +14,7 @@ loop-m-preserved g c =
     let list = c.args.self.now.monomials.now in
     let i = c.loop-m.m-index in
     writing_more g.W.Write.write_str_gives c.args.f.now c.loop-m.f c.write.new.self c.write.result (43 ∷ monomial_text one (get_or list i blank)) (rest_text one (drop (i + 1) list)) (rest_text one (drop i list)) (rest_text one list)
-    (rest_text_more one list i c.loop-m-test.true) c.write.ensures.writes (ap is_ok c.in-ok-write.was) c.loop-m.invariant
+    (rest_text_more one list i c.loop-m-test.true) c.write.ensures.writes (ap is_ok c.in_ok-write.was) c.loop-m.invariant
 
 pub returns-clause-writes : goal.returns-clause-writes
 returns-clause-writes g c =

@@ -9,12 +9,12 @@ pub joined-requires : goal.joined-requires
 joined-requires g c =
     let L = g.L.Ring.meaning c.args.self.now.left in
     let R = g.R.Ring.meaning c.args.self.now.right in
-    let p = c.in-ok-p.p in
-    let q = c.in-ok-p.q in
+    let p = c.in_ok-p.p in
+    let q = c.in_ok-p.q in
     record {
       few_enough = true-leb (pair_size L R) largest_size c.if-fits.ensures;
       codes = (
-        quotient_is_code L p.left q.left c.in-ok-x.x c.in-ok-x.ensures,
-        quotient_is_code R p.right q.right c.in-ok-y.y c.in-ok-y.ensures,
+        quotient_is_code L p.left q.left c.in_ok-x.x c.in_ok-x.ensures,
+        quotient_is_code R p.right q.right c.in_ok-y.y c.in_ok-y.ensures,
       );
     }

@@ -3,10 +3,10 @@ use Rattle.std.proofs.Common.{arith}
 use Rattle.script.proofs.Listings.{listed_more, listed_full}
 use Rattle.script.proofs.listing.Listing.push.Goals as goal
 
-pub returns-then-self-lt-MAX-LISTED : goal.returns-then-self-lt-MAX-LISTED
-returns-then-self-lt-MAX-LISTED c =
+pub returns-then-self-lt-MAX_LISTED : goal.returns-then-self-lt-MAX_LISTED
+returns-then-self-lt-MAX_LISTED c =
     listed_more 65 c.args.self.now.len c.args.self.now.items c.args.m (omega arith) (omega arith)
 
-pub returns-else-self-lt-MAX-LISTED : goal.returns-else-self-lt-MAX-LISTED
-returns-else-self-lt-MAX-LISTED c =
+pub returns-else-self-lt-MAX_LISTED : goal.returns-else-self-lt-MAX_LISTED
+returns-else-self-lt-MAX_LISTED c =
     listed_full 65 c.args.self.now.len c.args.self.now.items c.args.m (omega arith) (omega arith)

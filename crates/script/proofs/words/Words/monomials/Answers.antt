@@ -8,13 +8,13 @@ use Rattle.script.specs.Listed.{listed}
 use Rattle.script.proofs.Listings.{listed_with, part_shorter, word_more, word_wrong, words_all}
 use Rattle.script.proofs.words.Words.monomials.Goals as goal
 
-pub returns-in-err-packed : goal.returns-in-err-packed
-returns-in-err-packed c =
+pub returns-in_err-packed : goal.returns-in_err-packed
+returns-in_err-packed c =
     let l = c.loop-word in
     let left = l.self.rest.now in
     let word = c.in-Some.word in
-    let p = err_from_is_err_and c.from-residual.result c.from-residual.ensures.1 in
-    rw (p.1, p.2) (word_wrong (listed l.list) left word.now c.in-err-packed.field-0.0 (sym c.ahead.ensures ∙ ap (option_map (λ x. x.now)) c.in-Some.is) c.in-err-packed.ensures ∙ l.invariant)
+    let p = err_from_is_err_and c.from_residual.result c.from_residual.ensures.1 in
+    rw (p.1, p.2) (word_wrong (listed l.list) left word.now c.in_err-packed.field-0.0 (sym c.ahead.ensures ∙ ap (option_map (λ x. x.now)) c.in-Some.is) c.in_err-packed.ensures ∙ l.invariant)
 
 pub loop-word-smaller : goal.loop-word-smaller
 loop-word-smaller c =
@@ -27,11 +27,11 @@ pub loop-word-preserved : goal.loop-word-preserved
 loop-word-preserved c =
     let l = c.loop-word in
     let left = l.self.rest.now in
-    let more = word_more (listed l.list) left c.in-Some.word.now c.in-ok-packed.field-0 (sym c.ahead.ensures ∙ ap (option_map (λ x. x.now)) c.in-Some.is) c.in-ok-packed.ensures in
+    let more = word_more (listed l.list) left c.in-Some.word.now c.in_ok-packed.field-0 (sym c.ahead.ensures ∙ ap (option_map (λ x. x.now)) c.in-Some.is) c.in_ok-packed.ensures in
     (λ i. listed_with (c.push.ensures i) (monomials_in (c.next.ensures.rest i))) ∙ more ∙ l.invariant
 
 pub returns : goal.returns
 returns c =
     let l = c.loop-word in
     let few : length (listed l.list) ≤ 65 = simp length-take (omega arith) in
-    words_all (listed l.list) l.self.rest.now few (sym c.ahead.ensures ∙ ap (option_map (λ x. x.now)) c.in-default.is) ∙ l.invariant
+    words_all (listed l.list) l.self.rest.now few (sym c.ahead.ensures ∙ ap (option_map (λ x. x.now)) c.in_default.is) ∙ l.invariant
