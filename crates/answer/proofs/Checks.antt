@@ -1,5 +1,5 @@
 -- Going on after checks: what is refused stays refused, and what is granted goes on.
-use Rattle.std.proofs.Common.{◌≡◌, ℕ, ◌<◌, ◌≤◌, Bool, true, false, ◌&&◌, leb, List, [], ◌∷◌, length, take, Ok, Err, Result, sym, refl, ap, ◌∙◌, ⊎_elim, arith}
+use Rattle.std.proofs.Common.{◌≡◌, ℕ, ◌<◌, Bool, true, false, ◌&&◌, List, [], ◌∷◌, length, take, Ok, Err, Result, sym, refl, ap, ◌∙◌, ⊎_elim, arith}
 use Rattle.std.proofs.lemmas.List.{length-take-le, take_all}
 use Rattle.std.proofs.lemmas.Bool.{cases_lt, lt-leb}
 use Rattle.refusal.specs.declared.Refusal.{Refusal}
@@ -20,6 +20,11 @@ granted (Err f) a x h = let z : ◌≡◌ {A = ℕ} 0 1 = cc in absurd (omega ar
 -- after that the next call decides
 go_on : {A B : Type 0} (check : Result (Unit {0}) Refusal) (a x : A) (next : Result B Refusal) → Ok x ≡ then check (Ok a) → next ≡ then check next
 go_on check a x next h = sym (ap (λ r. then r next) (granted check a x h).0)
+
+-- a check that refuses in front of one call refuses in front of every call
+check_refused : {A B : Type 0} (check : Result (Unit {0}) Refusal) (a : A) (e : Refusal) (next : Result B Refusal) → Err e ≡ then check (Ok a) → Err e ≡ then check next
+check_refused (Ok u) a e next h = let z : ◌≡◌ {A = ℕ} 0 1 = cc in absurd (omega arith)
+check_refused (Err f) a e next h = cc
 
 -- a test that refuses in front of one call refuses in front of every call, and one that grants goes on
 provided_refused : {A : Type 0} (test : Bool) (f e : Refusal) (next : Result A Refusal) → Err e ≡ provided {A = Unit {0}} test f (Ok tt) → Err e ≡ provided test f next
@@ -45,6 +50,12 @@ module _ (ring : CoefficientRing) (order : TermOrder) (f : List Monomial) (s : M
       h ∙
       go_on (checked ring order line) line shown_line (provided (is_coefficient ring (code s)) CoefficientOutOfRange (added ring order f s line)) q ∙
       go_on (checked ring order f) f shown_f (then (checked ring order line) (provided (is_coefficient ring (code s)) CoefficientOutOfRange (added ring order f s line))) p
+
+  -- the second list is refused
+  pub line_refused : (e : Refusal) → Ok shown_f ≡ shown_formula ring order f → Err e ≡ shown_formula ring order line → Err e ≡ sum_of ring order f s line
+  line_refused e p q =
+      let sum = provided (is_coefficient ring (code s)) CoefficientOutOfRange (added ring order f s line) in
+      check_refused (checked ring order line) line e sum q ∙ go_on (checked ring order f) f shown_f (then (checked ring order line) sum) p
 
   -- the factor's coefficient is refused
   pub coefficient_refused : (e : Refusal) → Ok shown_f ≡ shown_formula ring order f → Ok shown_line ≡ shown_formula ring order line → Err e ≡ checked ring order (s ∷ []) → Err e ≡ sum_of ring order f s line

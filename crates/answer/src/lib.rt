@@ -1,4 +1,6 @@
 //! What the commands of a script answer in any ring and by any order, and the text of each answer.
+#![tactic(auto)]
+
 mod calls;
 mod formulas;
 mod text;

@@ -1,7 +1,7 @@
 -- The criterion over any lines: by well-founded induction on a bound of the products.
 use Rattle.std.proofs.Common.{◌≡◌, ◌⊎◌, List, [], ◌∷◌, sym, refl, ap, ◌∙◌, inl, inr}
 use mathlib.Core.WellFounded.Acc
-use Rattle.std.specs.List.{AllByRecursion as All}
+use Rattle.std.specs.List.{AllByRecursion}
 use Rattle.std.proofs.ByRecursion.{All-weaker}
 use Rattle.basis.proofs.Rings.{CommutativeRing, Factor, factor_of_itself, factor_of_factor}
 use Rattle.basis.proofs.Equations.{same_if_no_difference, put_back}
@@ -37,7 +37,7 @@ module _ {A T I : Type 0} {R : CommutativeRing A} {M : TermMonoid T} {O : Monoid
 
   -- a line whose head divides each step at X
   abbrev Chosen : T → List (LineStep A T I) → Type 0
-  Chosen X σ = (l : I) × Divisor M (L.head_term l) X × All (Gathered L X l) σ
+  Chosen X σ = (l : I) × Divisor M (L.head_term l) X × AllByRecursion (Gathered L X l) σ
 
   at_product : (X : T) (p : LineStep A T I) → step_product L p ≡ X → Divisor M (L.head_term p.line) X
   at_product X p e = (p.term, M.commutes (L.head_term p.line) p.term ∙ e)
@@ -51,11 +51,11 @@ module _ {A T I : Type 0} {R : CommutativeRing A} {M : TermMonoid T} {O : Monoid
       (b.cover, divisor_of_divisor M (L.head_term b.cover) b.top X b.cover_term (b.least X d (at_product X p e)), (inr (e, new), All-weaker (Gathered L X l) (Gathered L X b.cover) keep σ ks))
 
   -- all steps are before X, or a line is chosen
-  choose : ((i k : I) → Joined L i k) → (X : T) (σ : List (LineStep A T I)) → All (NotAfter X) σ → All (λ p. step_product L p ≺ X) σ ⊎ Chosen X σ
+  choose : ((i k : I) → Joined L i k) → (X : T) (σ : List (LineStep A T I)) → AllByRecursion (NotAfter X) σ → AllByRecursion (λ p. step_product L p ≺ X) σ ⊎ Chosen X σ
   choose joined X [] h = inl tt
   choose joined X (p ∷ σ) h = one_more h.0 (choose joined X σ h.1)
     where
-      one_more : NotAfter X p → All (λ q. step_product L q ≺ X) σ ⊎ Chosen X σ → All (λ q. step_product L q ≺ X) (p ∷ σ) ⊎ Chosen X (p ∷ σ)
+      one_more : NotAfter X p → AllByRecursion (λ q. step_product L q ≺ X) σ ⊎ Chosen X σ → AllByRecursion (λ q. step_product L q ≺ X) (p ∷ σ) ⊎ Chosen X (p ∷ σ)
       one_more (inl b) (inl bs) = inl (b, bs)
       one_more (inl b) (inr (l, d, ks)) = inr (l, d, (inl b, ks))
       one_more (inr e) (inl bs) = inr (p.line, at_product X p e, (inr (e, factor_of_itself R (L.head_code p.line)), All-weaker (λ q. step_product L q ≺ X) (Gathered L X p.line) (λ q b. inl b) σ bs))
@@ -63,7 +63,7 @@ module _ {A T I : Type 0} {R : CommutativeRing A} {M : TermMonoid T} {O : Monoid
 
   -- the greatest product of some steps
   abbrev Greatest : List (LineStep A T I) → Type 0
-  Greatest σ = (Y : T) × All (NotAfter Y) σ × ((X : T) → All (λ q. step_product L q ≺ X) σ → Y ≺ X)
+  Greatest σ = (Y : T) × AllByRecursion (NotAfter Y) σ × ((X : T) → AllByRecursion (λ q. step_product L q ≺ X) σ → Y ≺ X)
 
   raise : (Y Z : T) → Y ≺ Z → (q : LineStep A T I) → NotAfter Y q → NotAfter Z q
   raise Y Z l q (inl c) = inl (O.transitive (step_product L q) Y Z c l)
@@ -83,13 +83,13 @@ module _ {A T I : Type 0} {R : CommutativeRing A} {M : TermMonoid T} {O : Monoid
 
   -- the claim for sums of steps whose products are not after X
   abbrev Claim : T → Type 0
-  Claim X = (σ : List (LineStep A T I)) → All (NotAfter X) σ → HeadFits (value L σ)
+  Claim X = (σ : List (LineStep A T I)) → AllByRecursion (NotAfter X) σ → HeadFits (value L σ)
 
   -- what is low before X is a sum of steps with a greatest product before X
   descend : (X : T) → ((Y : T) → Y ≺ X → Claim Y) → (f : T → A) → Low L X f → HeadFits f
   descend X earlier f w t nz z = by_steps w.steps w.low w.same
     where
-      by_steps : (σ : List (LineStep A T I)) → All (λ p. step_product L p ≺ X) σ → ((x : T) → f x ≡ value L σ x) → Fitting t (f t)
+      by_steps : (σ : List (LineStep A T I)) → AllByRecursion (λ p. step_product L p ≺ X) σ → ((x : T) → f x ≡ value L σ x) → Fitting t (f t)
       by_steps [] h e = absurd (nz (e t))
       by_steps (p ∷ σ) h e =
           let (Y, us, up) = greatest p σ in
@@ -97,7 +97,7 @@ module _ {A T I : Type 0} {R : CommutativeRing A} {M : TermMonoid T} {O : Monoid
 
   module _ (annihilated : (k : I) → Annihilated L k) (joined : (i k : I) → Joined L i k) (zero? : (a : A) → Dec (a ≡ 𝟎)) where
     -- a line is chosen at X: its head divides the coefficient there, or all is low
-    with_chosen : (X : T) → ((Y : T) → Y ≺ X → Claim Y) → (σ : List (LineStep A T I)) → All (NotAfter X) σ → Chosen X σ → HeadFits (value L σ)
+    with_chosen : (X : T) → ((Y : T) → Y ≺ X → Claim Y) → (σ : List (LineStep A T I)) → AllByRecursion (NotAfter X) σ → Chosen X σ → HeadFits (value L σ)
     with_chosen X earlier σ h (l, (n, el), ks) t nz z = which (zero? (value L σ X)) (O.trichotomy t X)
       where
         C : A
@@ -132,7 +132,7 @@ module _ {A T I : Type 0} {R : CommutativeRing A} {M : TermMonoid T} {O : Monoid
     step : (X : T) → ((Y : T) → Y ≺ X → Claim Y) → Claim X
     step X earlier σ h = which (choose joined X σ h)
       where
-        which : All (λ p. step_product L p ≺ X) σ ⊎ Chosen X σ → HeadFits (value L σ)
+        which : AllByRecursion (λ p. step_product L p ≺ X) σ ⊎ Chosen X σ → HeadFits (value L σ)
         which (inl bs) = descend X earlier (value L σ) (record { steps = σ; low = bs; same = λ x. refl })
         which (inr c) = with_chosen X earlier σ h c
 

@@ -1,7 +1,7 @@
 -- A polynomial that is not zero has a head, and only one.
 use Rattle.std.proofs.Common.{◌≡◌, Bool, true, false, cond, ◌⊎◌, List, [], ◌∷◌, sym, refl, ap, ◌∙◌, subst, ap₂, inl, inr}
 use native.Mathlib.Decide.{ℕ_discrete}
-use Rattle.std.specs.List.{AllByRecursion as All}
+use Rattle.std.specs.List.{AllByRecursion}
 use Rattle.std.proofs.ByRecursion.{All-weaker}
 use Rattle.ring.specs.CoefficientRing.{CoefficientRing}
 use Rattle.ring.specs.Within.{within}
@@ -16,7 +16,7 @@ use Rattle.basis.proofs.SixTerms.{same_term_decides}
 
 module _ (ring : CoefficientRing) where
   -- what holds at each term of f holds at t, or f has no coefficient there
-  pub at_terms : (Q : Term → Type 0) (f : Polynomial) → All (λ m. Q m.term) f → (t : Term) → Q t ⊎ (coefficient ring f t ≡ 0)
+  pub at_terms : (Q : Term → Type 0) (f : Polynomial) → AllByRecursion (λ m. Q m.term) f → (t : Term) → Q t ⊎ (coefficient ring f t ≡ 0)
   at_terms Q [] h t = inr refl
   at_terms Q (m ∷ f) h t = which (same_term m.term t) refl (at_terms Q f h.1 t)
     where
@@ -32,9 +32,9 @@ module _ (ring : CoefficientRing) where
 
     -- a term of f, after which none of some monomials counts
     abbrev Top : List Monomial → Type 0
-    Top ms = (top : Term) × (coefficient ring f top ≡ 0 → ⊥) × All (λ m. NoneAfter top m.term) ms
+    Top ms = (top : Term) × (coefficient ring f top ≡ 0 → ⊥) × AllByRecursion (λ m. NoneAfter top m.term) ms
 
-    higher : (ms : List Monomial) (c : Top ms) (t : Term) → order.before c.0 t → All (λ m. NoneAfter t m.term) ms
+    higher : (ms : List Monomial) (c : Top ms) (t : Term) → order.before c.0 t → AllByRecursion (λ m. NoneAfter t m.term) ms
     higher ms c t l = All-weaker (λ m. NoneAfter c.0 m.term) (λ m. NoneAfter t m.term) (λ m n a. n (order.transitive c.0 t m.term l a)) ms c.2
 
     top_of : (t : Term) → (coefficient ring f t ≡ 0 → ⊥) → (ms : List Monomial) → Top ms

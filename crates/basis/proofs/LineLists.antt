@@ -1,7 +1,7 @@
 -- A list of lines as lines of the theory; a step of a missing line adds nothing.
 use Rattle.std.proofs.Common.{◌≡◌, ℕ, zero, suc, ◌<◌, List, [], ◌∷◌, length, refl, ap, ◌∙◌, ap₂, arith}
 use native.Mathlib.Decide.{dec_lt}
-use Rattle.std.specs.List.{AllByRecursion as All}
+use Rattle.std.specs.List.{AllByRecursion}
 use Rattle.std.proofs.lemmas.List.{get_or_past}
 use Rattle.ring.specs.CoefficientRing.{CoefficientRing}
 use Rattle.order.specs.Term.{Term}
@@ -81,12 +81,12 @@ module _ (ring : CoefficientRing) (order : TermOrder) (lines : List Line) (heads
   at_steps : (σ : List Step) (x : Term) → at ring (sum_of_steps ring (polynomials lines) σ) x ≡ value all_lines (kept_steps (coded ring (polynomials lines) σ)) x
   at_steps σ x = at_sum_of_steps ring (polynomials lines) σ x ∙ value_kept (coded ring (polynomials lines) σ) x
 
-  low_kept : (t : Term) (σ : List Step) → All (StepBefore ring order lines t) σ → All (λ p. order.before (step_product all_lines p) t) (kept_steps (coded ring (polynomials lines) σ))
+  low_kept : (t : Term) (σ : List Step) → AllByRecursion (StepBefore ring order lines t) σ → AllByRecursion (λ p. order.before (step_product all_lines p) t) (kept_steps (coded ring (polynomials lines) σ))
   low_kept t [] h = tt
   low_kept t (s ∷ σ) h = which (dec_lt s.line (length lines)) (low_kept t σ h.1)
     where
-      which : (d : Dec (s.line < length lines)) → All (λ p. order.before (step_product all_lines p) t) (kept_steps (coded ring (polynomials lines) σ))
-          → All (λ p. order.before (step_product all_lines p) t) (kept_step (record { code = code_of ring s.code; term = s.term; line = s.line }) d (kept_steps (coded ring (polynomials lines) σ)))
+      which : (d : Dec (s.line < length lines)) → AllByRecursion (λ p. order.before (step_product all_lines p) t) (kept_steps (coded ring (polynomials lines) σ))
+          → AllByRecursion (λ p. order.before (step_product all_lines p) t) (kept_step (record { code = code_of ring s.code; term = s.term; line = s.line }) d (kept_steps (coded ring (polynomials lines) σ)))
       which (yes _) rest = (h.0.before, rest)
       which (no n) rest = rest
 

@@ -1,6 +1,6 @@
 -- Sums of steps whose products all lie before a term: they are closed under sums, multiples and shifts.
 use Rattle.std.proofs.Common.{◌≡◌, List, [], ◌∷◌, ◌++◌, sym, refl, ap, ◌∙◌, subst, ap₂}
-use Rattle.std.specs.List.{AllByRecursion as All}
+use Rattle.std.specs.List.{AllByRecursion}
 use Rattle.std.proofs.ByRecursion.{All-append}
 use Rattle.basis.proofs.Rings.{CommutativeRing, zero_left, times_zero, zero_right}
 use Rattle.basis.proofs.TermMonoids.{TermMonoid, MonoidOrder}
@@ -35,14 +35,14 @@ module _ {A T I : Type 0} {R : CommutativeRing A} {M : TermMonoid T} {O : Monoid
   -- f has the coefficients of a sum of steps whose products are all before X
   pub record Low (X : T) (f : T → A) : Type 0 where
     pub steps : List (LineStep A T I)
-    pub low : All (λ p. O.before (step_product p) X) steps
+    pub low : AllByRecursion (λ p. O.before (step_product p) X) steps
     pub same : (x : T) → f x ≡ value steps x
 
-  low_multiplied_steps : (a : A) (m X : T) (σ : List (LineStep A T I)) → All (λ p. step_product p ≺ X) σ → All (λ p. step_product p ≺ m · X) (multiplied_steps R M L.at a m σ)
+  low_multiplied_steps : (a : A) (m X : T) (σ : List (LineStep A T I)) → AllByRecursion (λ p. step_product p ≺ X) σ → AllByRecursion (λ p. step_product p ≺ m · X) (multiplied_steps R M L.at a m σ)
   low_multiplied_steps a m X [] h = tt
   low_multiplied_steps a m X (p ∷ σ) h = (rw (M.associates m p.term (L.head_term p.line)) (O.kept_by_product m (step_product p) X h.0), low_multiplied_steps a m X σ h.1)
 
-  low_scaled_steps : (a : A) (X : T) (σ : List (LineStep A T I)) → All (λ p. step_product p ≺ X) σ → All (λ p. step_product p ≺ X) (scaled_steps R M L.at a σ)
+  low_scaled_steps : (a : A) (X : T) (σ : List (LineStep A T I)) → AllByRecursion (λ p. step_product p ≺ X) σ → AllByRecursion (λ p. step_product p ≺ X) (scaled_steps R M L.at a σ)
   low_scaled_steps a X [] h = tt
   low_scaled_steps a X (p ∷ σ) h = (h.0, low_scaled_steps a X σ h.1)
 
@@ -81,7 +81,7 @@ module _ {A T I : Type 0} {R : CommutativeRing A} {M : TermMonoid T} {O : Monoid
   low_step p h = record { steps = p ∷ []; low = (h, tt); same = λ x. sym (zero_right R _) }
 
   -- steps with products before X add nothing at X
-  pub value_at_bound : (X : T) (σ : List (LineStep A T I)) → All (λ p. step_product p ≺ X) σ → value σ X ≡ 𝟎
+  pub value_at_bound : (X : T) (σ : List (LineStep A T I)) → AllByRecursion (λ p. step_product p ≺ X) σ → value σ X ≡ 𝟎
   value_at_bound X [] h = refl
   value_at_bound X (p ∷ σ) h =
       ap₂ ◌+◌ (ap (λ y. p.code * y) (shifted_after R M O p.term (L.head_term p.line) (L.at p.line) (L.after_head p.line) X h.0) ∙ times_zero R p.code) (value_at_bound X σ h.1) ∙ zero_left R 𝟎

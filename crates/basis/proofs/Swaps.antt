@@ -1,6 +1,6 @@
 -- At a term X, steps of different lines are multiples of one line, up to what is low before X.
 use Rattle.std.proofs.Common.{◌≡◌, ◌⊎◌, List, [], ◌∷◌, sym, ap, ◌∙◌, ap₂, inl, inr}
-use Rattle.std.specs.List.{AllByRecursion as All}
+use Rattle.std.specs.List.{AllByRecursion}
 use Rattle.basis.proofs.Rings.{CommutativeRing, Factor}
 use Rattle.basis.proofs.Equations.{one_factor, annihilates, swapped, nothing_gathered, low_gathered, top_gathered}
 use Rattle.basis.proofs.TermMonoids.{TermMonoid, MonoidOrder, Divisor, cofactor}
@@ -75,7 +75,7 @@ module _ {A T I : Type 0} {R : CommutativeRing A} {M : TermMonoid T} {O : Monoid
   Gathered X l p = (step_product L p ≺ X) ⊎ ((step_product L p ≡ X) × Factor R (L.head_code l) (L.head_code p.line))
 
   -- the sum of such steps is a multiple of line l, up to what is low
-  pub gather : ((k : I) → Annihilated k) → ((i k : I) → Joined i k) → (X : T) (l : I) (n : T) → L.head_term l · n ≡ X → (σ : List (LineStep A T I)) → All (Gathered X l) σ
+  pub gather : ((k : I) → Annihilated k) → ((i k : I) → Joined i k) → (X : T) (l : I) (n : T) → L.head_term l · n ≡ X → (σ : List (LineStep A T I)) → AllByRecursion (Gathered X l) σ
       → (C : A) × Low L X (λ x. value L σ x + − (C * shifted R M n (L.at l) x))
   gather annihilated joined X l n el [] h = (𝟎, low_same L (low_zero L) (λ x. nothing_gathered R (shifted R M n (L.at l) x)))
   gather annihilated joined X l n el (p ∷ σ) h = one_more h.0 (gather annihilated joined X l n el σ h.1)

@@ -1,6 +1,6 @@
 -- A-, G- and S-polynomials, low representations, and the criterion.
 use Rattle.std.specs.Prelude.{ℕ, ◌<◌, List, ◌++◌, length}
-use Rattle.std.specs.List.{AllByRecursion as All}
+use Rattle.std.specs.List.{AllByRecursion}
 use Rattle.std.specs.Option.{unwrap_or}
 use Rattle.ring.specs.CoefficientRing.{CoefficientRing}
 use Rattle.ring.specs.declared.Bezout.{Bezout}
@@ -56,7 +56,7 @@ module _ (ring : CoefficientRing) where
     -- a low representation of f: a sum of steps whose products are all before t
     pub record LowRepresentation (t : Term) (f : Polynomial) : Type 0 where
       pub steps : List Step
-      pub low : All (StepBefore t) steps
+      pub low : AllByRecursion (StepBefore t) steps
       pub same : Same ring f (sum_of_steps ring (polynomials lines) steps)
 
     -- the criterion: each line's A-polynomial has a low representation before its head term, each two lines' S-polynomial

@@ -1,7 +1,7 @@
 -- The three lines over six codes, by computing coefficients at the few terms that occur.
 use Rattle.std.proofs.Common.{◌≡◌, ℕ, zero, suc, ◌<◌, ◌≤◌, Bool, true, ◌&&◌, eqb, ◌⊎◌, List, [], ◌∷◌, sym, refl, ap, ◌∙◌, subst, inl, inr, arith, lit<}
 use Rattle.std.proofs.lemmas.Bool.{and_parts, eqb-true}
-use Rattle.std.specs.List.{AllByRecursion as All}
+use Rattle.std.specs.List.{AllByRecursion}
 use Rattle.order.specs.Term.{Term, unit, Divides}
 use Rattle.order.proofs.Terms.{division_laws}
 use Rattle.term.specs.Orders.{lex}
@@ -21,7 +21,7 @@ abbrev pub agree_at : (f g ms : Polynomial) → Bool
 agree_at f g [] = true
 agree_at f g (m ∷ ms) = eqb (coefficient six f m.term) (coefficient six g m.term) && agree_at f g ms
 
-agreed : (f g ms : Polynomial) → agree_at f g ms ≡ true → All (λ m. coefficient six f m.term ≡ coefficient six g m.term) ms
+agreed : (f g ms : Polynomial) → agree_at f g ms ≡ true → AllByRecursion (λ m. coefficient six f m.term ≡ coefficient six g m.term) ms
 agreed f g [] h = tt
 agreed f g (m ∷ ms) h =
     let e = and_parts (eqb (coefficient six f m.term) (coefficient six g m.term)) (agree_at f g ms) h in
@@ -43,7 +43,7 @@ before_power m n h = inl h
 
 -- a polynomial with no term after its first has its head there
 headed : (line : Line) → coefficient six line.polynomial line.head.term ≡ line.head.coefficient → (line.head.coefficient ≡ 0 → ⊥)
-    → All (λ m. (m.term ≡ line.head.term) ⊎ lex.before m.term line.head.term) line.polynomial → Headed six lex line
+    → AllByRecursion (λ m. (m.term ≡ line.head.term) ⊎ lex.before m.term line.head.term) line.polynomial → Headed six lex line
 headed line e n low = record { there = e; not_zero = n; none_after = λ t l. which t l (at_terms six (λ t. (t ≡ line.head.term) ⊎ lex.before t line.head.term) line.polynomial low t) }
   where
     which : (t : Term) → lex.before line.head.term t → ((t ≡ line.head.term) ⊎ lex.before t line.head.term) ⊎ (coefficient six line.polynomial t ≡ 0) → coefficient six line.polynomial t ≡ 0

@@ -1,7 +1,7 @@
 -- Three lines over six codes in the order lex that meet the criterion, and one line that without its A-polynomial is no strong basis.
 use Rattle.std.specs.Prelude.{◌≡◌, ℕ, ◌<◌, ◌⊎◌, List, [], ◌∷◌, length, refl}
 use Rattle.std.proofs.lemmas.Bool.{leb-true}
-use Rattle.std.specs.List.{AllByRecursion as All}
+use Rattle.std.specs.List.{AllByRecursion}
 use Rattle.ring.specs.CoefficientRing.{CoefficientRing}
 use Rattle.residue.specs.Residues.{residues}
 use Rattle.order.specs.Term.{Term, product}
@@ -52,7 +52,7 @@ pub record StepNotAfter (lines : List Line) (t : Term) (step : Step) : Type 0 wh
 -- f is a sum of steps whose products are before t, or are t
 pub record WeakRepresentation (lines : List Line) (t : Term) (f : Polynomial) : Type 0 where
   pub steps : List Step
-  pub weak : All (StepNotAfter lines t) steps
+  pub weak : AllByRecursion (StepNotAfter lines t) steps
   pub same : Same six f (sum_of_steps six (polynomials lines) steps)
 
 -- the first line alone meets all but that part, and that part too if products need not be before; and yet it is no strong basis:

@@ -1,7 +1,7 @@
 -- The law of adding a step.
 use Rattle.std.proofs.Common.{◌≡◌, ℕ, ◌<◌, ◌≤◌, Bool, true, false, leb, List, length, Ok, sym, refl, ap, ◌∙◌, subst, arith}
 use Rattle.std.proofs.lemmas.Bool.{leb-true}
-use Rattle.std.specs.List.{AllByRecursion as All}
+use Rattle.std.specs.List.{AllByRecursion}
 use Rattle.std.proofs.ByRecursion.{All-weaker}
 use Rattle.refusal.specs.declared.Refusal.TheVariants.{ExponentTooLarge, SumTooLong}
 use Rattle.ring.specs.CoefficientRing.{CoefficientRing}
@@ -32,7 +32,7 @@ module _ (ring : CoefficientRing) (order : TermOrder) (f : List Monomial) (s : M
       by true k e = room (leb (length (merged ring order f (multiplied ring s line))) max_monomials) refl k e
       by false k e = let z : ◌≡◌ {A = ℕ} 0 1 = cc in absurd (omega arith)
 
-codes_of : (ring : CoefficientRing) (f : List Monomial) → All (λ m. Coefficient ring (code m)) f → Codes ring f
+codes_of : (ring : CoefficientRing) (f : List Monomial) → AllByRecursion (λ m. Coefficient ring (code m)) f → Codes ring f
 codes_of ring f h = All-weaker (λ m. Coefficient ring (code m)) (λ m. code m < ring.size) (λ m l. l.1) f h
 
 pub addition_law : (ring : CoefficientRing) (order : TermOrder) → AdditionLaw ring order

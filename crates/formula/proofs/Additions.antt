@@ -3,7 +3,7 @@ use Rattle.std.proofs.Common.{◌≡◌, ℕ, ◌<◌, Bool, true, false, cond, 
 use Rattle.std.proofs.lemmas.Bool.{and_parts}
 use Rattle.std.proofs.lemmas.Bool.Decides.{Decides-like, not_from_Decides, same_from_decides}
 use Rattle.std.specs.Ordering.{MatchOrdering}
-use Rattle.std.specs.List.{AllByRecursion as All}
+use Rattle.std.specs.List.{AllByRecursion}
 use Rattle.ring.specs.CoefficientRing.{CoefficientRing}
 use Rattle.order.specs.Term.{Term, Divides, divides, product, quotient}
 use Rattle.order.specs.TermOrder.{TermOrder, compared}
@@ -26,7 +26,7 @@ cond_zero false c e = refl
 module _ (ring : CoefficientRing) where
   -- codes below the size, 0 included
   abbrev pub Codes : List Monomial → Type 0
-  Codes f = All (λ m. code m < ring.size) f
+  Codes f = AllByRecursion (λ m. code m < ring.size) f
 
   coefficient_kept : (m : Monomial) (h : List Monomial) (t : Term) → coefficient ring (kept m ++ h) t ≡ ring.sum (code_at m t) (coefficient ring h t)
   coefficient_kept m h t =

@@ -5,7 +5,7 @@ use Rattle.std.proofs.lemmas.List.{at_drop_more, at_drop_all, drop_more, take_re
 use Rattle.std.proofs.lemmas.Bool.{leb-true, le-leb}
 use Rattle.std.proofs.lemmas.Bool.Decides.{Decides-and, Decides-like, Decides-ltb}
 use Rattle.std.specs.Ordering.{MatchOrdering, is_lt}
-use Rattle.std.specs.List.{AllByRecursion as All}
+use Rattle.std.specs.List.{AllByRecursion}
 use Rattle.refusal.specs.declared.Refusal.{Refusal}
 use Rattle.refusal.specs.declared.Refusal.TheVariants.{TooManyMonomials, CoefficientOutOfRange, TermsNotFalling}
 use Rattle.ring.specs.CoefficientRing.{CoefficientRing}
@@ -30,7 +30,7 @@ falling_all order m f i h = at_drop_all (falling_after order m) f i h
 pub falling_split : (order : TermOrder) (f : List Monomial) → 0 < length f → falling_after order (get_or f 0 blank) (take (length f - 1) (drop 1 f)) ≡ falling order f
 falling_split order f h = ap (falling_after order (get_or f 0 blank)) (take_rest f 1) ∙ sym (ap (falling order) (drop_more f 0 blank h))
 
-pub decides_coded : (ring : CoefficientRing) (f : List Monomial) → Decides (coded ring f) (All (λ m. Coefficient ring (code m)) f)
+pub decides_coded : (ring : CoefficientRing) (f : List Monomial) → Decides (coded ring f) (AllByRecursion (λ m. Coefficient ring (code m)) f)
 decides_coded ring f = Decides-by_and (λ m. is_coefficient ring (code m)) (λ m. Coefficient ring (code m)) (coded ring) (λ m. Decides-and (ltb 0 (code m)) (ltb (code m) ring.size) (Decides-ltb 0 (code m)) (Decides-ltb (code m) ring.size)) refl (λ _ _. refl) f
 
 decides_before : (order : TermOrder) (m n : Monomial) → Decides (is_before order m n) (order.before (term m) (term n))
@@ -42,7 +42,7 @@ decides_before order m n = (of (compared order (term m) (term n)) (compared_rank
     of Greater h e = let z : ◌≡◌ {A = ℕ} 0 1 = cc in absurd (omega arith)
 
 -- terms before one term are before every later one
-pub all_before : (order : TermOrder) (s t : Term) (f : List Monomial) → order.before s t → All (λ k. order.before (term k) s) f → All (λ k. order.before (term k) t) f
+pub all_before : (order : TermOrder) (s t : Term) (f : List Monomial) → order.before s t → AllByRecursion (λ k. order.before (term k) s) f → AllByRecursion (λ k. order.before (term k) t) f
 all_before order s t f h = All-weaker (λ k. order.before (term k) s) (λ k. order.before (term k) t) (λ k l. order.transitive (term k) s t l h) f
 
 decides_falling : (order : TermOrder) (m : Monomial) (f : List Monomial) → Decides (falling_after order m f) (Falling order (m ∷ f))
@@ -65,7 +65,7 @@ granted_when false refusal next d q = ((λ h. let z : ◌≡◌ {A = ℕ} 0 1 = 
 pub checked_exactly_formulas : (ring : CoefficientRing) (order : TermOrder) (f : List Monomial) → (checked ring order f ≡ Ok tt) ↔ Formula ring order f
 checked_exactly_formulas ring order f = ((λ h. let p = parts.0 h in record { not_long = p.0; coefficients = p.1.0; falling_terms = p.1.1.0 }), λ h. parts.1 (h.not_long, (h.coefficients, (h.falling_terms, tt))))
   where
-    parts : (checked ring order f ≡ Ok tt) ↔ ((length f ≤ max_monomials) × (All (λ m. Coefficient ring (code m)) f × (Falling order f × Unit {0})))
+    parts : (checked ring order f ≡ Ok tt) ↔ ((length f ≤ max_monomials) × (AllByRecursion (λ m. Coefficient ring (code m)) f × (Falling order f × Unit {0})))
     parts =
         granted_when (leb (length f) max_monomials) TooManyMonomials _ (leb-true (length f) max_monomials, le-leb (length f) max_monomials)
         (granted_when (coded ring f) CoefficientOutOfRange _ (decides_coded ring f)

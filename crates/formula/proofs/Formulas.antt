@@ -2,7 +2,7 @@
 use Rattle.std.proofs.Common.{◌≡◌, ◌^◌, ◌<◌, true, List, [], ◌∷◌, ◌++◌, Ordering, Less, Equal, Greater, sym, subst}
 use Rattle.std.proofs.lemmas.Bool.{and_parts}
 use Rattle.std.specs.Ordering.{MatchOrdering}
-use Rattle.std.specs.List.{AllByRecursion as All}
+use Rattle.std.specs.List.{AllByRecursion}
 use Rattle.ring.specs.CoefficientRing.{CoefficientRing}
 use Rattle.order.specs.Term.{Term, product}
 use Rattle.order.specs.TermOrder.{TermOrder, compared}
@@ -19,22 +19,22 @@ use Rattle.formula.proofs.Parts.{all_kept, code_plus, code_times, kept_cases, pl
 module _ (ring : CoefficientRing) (order : TermOrder) where
   -- Q of the monomials of two lists gives P of those in the merged list
   module _ (Q P : Monomial → Type 0) (keeps : (m : Monomial) → Q m → 0 < code m → P m) (sums : (m n : Monomial) → Q m → 0 < code (plus ring m n) → P (plus ring m n)) where
-    all_nonzero : (f : List Monomial) → All Q f → All P (nonzero f)
+    all_nonzero : (f : List Monomial) → AllByRecursion Q f → AllByRecursion P (nonzero f)
     all_nonzero [] h = tt
     all_nonzero (m ∷ f) h = all_kept P m (nonzero f) (keeps m h.0) (all_nonzero f h.1)
 
-    all_merged : (f g : List Monomial) → All Q f → All Q g → All P (merged ring order f g)
+    all_merged : (f g : List Monomial) → AllByRecursion Q f → AllByRecursion Q g → AllByRecursion P (merged ring order f g)
     all_merged [] g hf hg = all_nonzero g hg
     all_merged (m ∷ f) [] hf hg = all_nonzero (m ∷ f) hf
     all_merged (m ∷ f) (n ∷ g) hf hg =
         by (compared order (term m) (term n)) _ _ _ (all_merged (m ∷ f) g hf hg.1) (all_merged f g hf.1 hg.1) (all_merged f (n ∷ g) hf.1 hg)
       where
-        by : (o : Ordering) (past_n past_both past_m : List Monomial) → All P past_n → All P past_both → All P past_m → All P (picked o ring m n past_n past_both past_m)
+        by : (o : Ordering) (past_n past_both past_m : List Monomial) → AllByRecursion P past_n → AllByRecursion P past_both → AllByRecursion P past_m → AllByRecursion P (picked o ring m n past_n past_both past_m)
         by Less past_n past_both past_m p q r = all_kept P n past_n (keeps n hg.0) p
         by Equal past_n past_both past_m p q r = all_kept P (plus ring m n) past_both (sums m n hf.0) q
         by Greater past_n past_both past_m p q r = all_kept P m past_m (keeps m hf.0) r
 
-  pub coefficients_merged : (f g : List Monomial) → Codes ring f → Codes ring g → All (λ m. Coefficient ring (code m)) (merged ring order f g)
+  pub coefficients_merged : (f g : List Monomial) → Codes ring f → Codes ring g → AllByRecursion (λ m. Coefficient ring (code m)) (merged ring order f g)
   coefficients_merged = all_merged (λ m. code m < ring.size) (λ m. Coefficient ring (code m)) (λ m h l. (l, h)) (λ m n h l. (l, subst (λ c. c < ring.size) (sym (code_plus ring m n)) (ring.sum_below (code m) (code n))))
 
   pub packed_merged : (f g : List Monomial) → Packed f → Packed g → Packed (merged ring order f g)
@@ -42,7 +42,7 @@ module _ (ring : CoefficientRing) (order : TermOrder) where
 
   -- the terms of a list are before t
   abbrev Under : Term → List Monomial → Type 0
-  Under t f = All (λ m. order.before (term m) t) f
+  Under t f = AllByRecursion (λ m. order.before (term m) t) f
 
   under_nonzero : (t : Term) (f : List Monomial) → Under t f → Under t (nonzero f)
   under_nonzero t = all_nonzero (λ m. order.before (term m) t) (λ m. order.before (term m) t) (λ m h _. h) (λ m n h _. subst (λ x. order.before x t) (sym (term_plus ring m n)) h)

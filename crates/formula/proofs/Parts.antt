@@ -1,7 +1,7 @@
 -- The parts of a sum: terms and codes of products and sums of monomials, and monomials that are kept.
 use Rattle.std.proofs.Common.{◌≡◌, ℕ, ◌^◌, ◌<◌, ◌≤◌, true, cond, eqb, List, [], ◌∷◌, ◌++◌, Some, None, Option, sym, ap, ◌∙◌, ap₂, arith}
 use Rattle.std.proofs.lemmas.Bool.{cond_both, cond-true, eqb-true, eqb-false}
-use Rattle.std.specs.List.{AllByRecursion as All}
+use Rattle.std.specs.List.{AllByRecursion}
 use Rattle.ring.specs.CoefficientRing.{CoefficientRing}
 use Rattle.order.specs.Term.{Term, product}
 use Rattle.order.proofs.Terms.{division_laws}
@@ -54,5 +54,5 @@ kept_cases Q m z p = cond_both (eqb (code m) 0) [] (m ∷ []) Q (λ e. z (eqb-tr
     positive : (c : ℕ) → (c ≡ 0 → ⊥) → 0 < c
     positive c n = omega arith
 
-pub all_kept : (P : Monomial → Type 0) (m : Monomial) (h : List Monomial) → (0 < code m → P m) → All P h → All P (kept m ++ h)
-all_kept P m h p a = kept_cases (λ k. All P (k ++ h)) m (λ _. a) (λ l. (p l, a))
+pub all_kept : (P : Monomial → Type 0) (m : Monomial) (h : List Monomial) → (0 < code m → P m) → AllByRecursion P h → AllByRecursion P (kept m ++ h)
+all_kept P m h p a = kept_cases (λ k. AllByRecursion P (k ++ h)) m (λ _. a) (λ l. (p l, a))

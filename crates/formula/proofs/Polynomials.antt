@@ -2,7 +2,7 @@
 use Rattle.std.proofs.Common.{◌≡◌, ℕ, suc, ◌^◌, ◌<◌, ◌≤◌, Bool, true, false, cond, ◌⊎◌, List, [], ◌∷◌, length, Decides, sym, refl, ap, ◌∙◌, subst, ap₂, inl, inr, arith}
 use Rattle.std.proofs.lemmas.Bool.{cond-true, cond-false}
 use Rattle.std.proofs.lemmas.Bool.Decides.{Decides-and, Decides-eqb, Decides-like}
-use Rattle.std.specs.List.{AllByRecursion as All}
+use Rattle.std.specs.List.{AllByRecursion}
 use Rattle.ring.specs.CoefficientRing.{CoefficientRing}
 use Rattle.order.specs.Term.{Term}
 use Rattle.order.specs.TermOrder.{TermOrder}
@@ -56,7 +56,7 @@ module _ (ring : CoefficientRing) (order : TermOrder) where
   apart : {s t : Term} → order.before s t → s ≡ t → ⊥
   apart {s} {t} h e = order.irreflexive t (subst (λ x. order.before x t) e h)
 
-  pub zero_past : (f : List Monomial) (t : Term) → All (λ n. order.before (term n) t) f → coefficient ring f t ≡ 0
+  pub zero_past : (f : List Monomial) (t : Term) → AllByRecursion (λ n. order.before (term n) t) f → coefficient ring f t ≡ 0
   zero_past [] t h = refl
   zero_past (m ∷ f) t h = ap₂ ring.sum (code_at_other m t (apart h.0)) (zero_past f t h.1) ∙ sum_zero_left ring 0 (zero_below ring)
 

@@ -1,7 +1,7 @@
 -- Formulas: lists of up to 64 packed monomials with coefficients and strictly falling terms, and the checks of a list.
 use Rattle.std.specs.Prelude.{ℕ, ◌<◌, ◌≤◌, Bool, true, cond, ◌&&◌, List, [], ◌∷◌, length, Ok, Err, Result, nat_le, nat_lt}
 use Rattle.std.specs.Ordering.{is_lt}
-use Rattle.std.specs.List.{AllByRecursion as All}
+use Rattle.std.specs.List.{AllByRecursion}
 use Rattle.refusal.specs.declared.Refusal.{Refusal}
 use Rattle.refusal.specs.declared.Refusal.TheVariants.{TooManyMonomials, CoefficientOutOfRange, TermsNotFalling}
 use Rattle.ring.specs.CoefficientRing.{CoefficientRing}
@@ -32,12 +32,12 @@ Coefficient ring c = (0 < c) × (c < ring.size)
 -- each term is after all that follow
 abbrev pub Falling : TermOrder → List Monomial → Type 0
 Falling order [] = Unit {0}
-Falling order (m ∷ f) = All (λ n. order.before (term n) (term m)) f × Falling order f
+Falling order (m ∷ f) = AllByRecursion (λ n. order.before (term n) (term m)) f × Falling order f
 
 -- a formula over a ring and an order; the empty list is zero, and the first monomial of another is its head
 pub record Formula (ring : CoefficientRing) (order : TermOrder) (f : List Monomial) : Type 0 where
   pub not_long : length f ≤ max_monomials
-  pub coefficients : All (λ m. Coefficient ring (code m)) f
+  pub coefficients : AllByRecursion (λ m. Coefficient ring (code m)) f
   pub falling_terms : Falling order f
 
 -- whether a number is a coefficient

@@ -1,6 +1,6 @@
 -- The polynomial of a list of monomials, which is known by its coefficients.
 use Rattle.std.specs.Prelude.{◌≡◌, ℕ, ◌^◌, ◌<◌, Bool, cond, ◌&&◌, List, [], ◌∷◌, ◌==◌}
-use Rattle.std.specs.List.{AllByRecursion as All}
+use Rattle.std.specs.List.{AllByRecursion}
 use Rattle.ring.specs.CoefficientRing.{CoefficientRing}
 use Rattle.order.specs.Term.{Term, divides, quotient}
 use Rattle.order.specs.TermOrder.{TermOrder}
@@ -35,4 +35,4 @@ pub record Head (ring : CoefficientRing) (order : TermOrder) (m : Monomial) (f :
 
 -- each monomial is a number of 64 bits
 abbrev pub Packed : List Monomial → Type 0
-Packed f = All (λ m. m.bits < 2 ^ 64) f
+Packed f = AllByRecursion (λ m. m.bits < 2 ^ 64) f

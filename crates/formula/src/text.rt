@@ -142,6 +142,14 @@ impl<'a> FormulaText<'a> {
             monomials,
         }
     }
+
+    /// The text of a list of monomials over a ring whose one has this code.
+    pub fn with_one(one: Code, monomials: &'a [Monomial]) -> FormulaText<'a>
+        ensures one { result.one ≡ one }
+        ensures monomials { result.monomials.now ≡ monomials.now }
+    {
+        FormulaText { one, monomials }
+    }
 }
 
 impl fmt::Display for FormulaText<'_> {

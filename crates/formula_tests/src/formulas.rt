@@ -50,9 +50,9 @@ fn orders_agree<R: Ring>(
         counters,
         rule: Rule::new(plain_weights, Below::Reverse),
     };
-    formulas_agree(rt, ring, &Lex, lex, heap).note("lex")?;
-    formulas_agree(rt, ring, &Reverse, reverse, heap).note("reverse")?;
-    formulas_agree(rt, ring, &Weight::new(weights, Lex), weight_lex, heap).note("weight, lex")?;
+    formulas_agree(rt, ring, &Lex, lex, heap)?;
+    formulas_agree(rt, ring, &Reverse, reverse, heap)?;
+    formulas_agree(rt, ring, &Weight::new(weights, Lex), weight_lex, heap)?;
     formulas_agree(
         rt,
         ring,
@@ -60,7 +60,6 @@ fn orders_agree<R: Ring>(
         weight_reverse,
         heap,
     )
-    .note("weight, reverse")
 }
 
 #[test]
@@ -79,8 +78,7 @@ fn formulas_over_residue_rings(rt: HostRuntime) -> Result<(), Fail> {
             counters,
             Monomial { bits },
             rt.alloc(),
-        )
-        .note(n)?;
+        )?;
     }
     Ok(())
 }

@@ -1,4 +1,6 @@
 //! Tests of terms, orders and formulas: random ones against plain implementations, and the limits.
+#![tactic(auto)]
+
 #[cfg(test)]
 mod checks;
 #[cfg(test)]

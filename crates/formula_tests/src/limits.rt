@@ -52,15 +52,16 @@ impl Powers {
     }
 
     /// The answer to adding a factor times other powers.
-    fn added(self, factor: Plain, line: Powers, heap: Global) -> Result<u8, Fail> {
+    fn added(self, rt: &impl Abort, factor: Plain, line: Powers, heap: Global) -> Result<u8, Fail> {
         let formula = self.monomials(heap)?;
         let line = line.monomials(heap)?;
-        added(formula.as_slice(), factor, line.as_slice(), heap)
+        added(rt, formula.as_slice(), factor, line.as_slice(), heap)
     }
 }
 
 /// The answer to adding a step over six codes, compared with the sum worked out.
 fn added<'a>(
+    rt: &impl Abort,
     formula: &'a [Plain],
     factor: Plain,
     line: &'a [Plain],
@@ -71,7 +72,7 @@ fn added<'a>(
         factor,
         line,
     };
-    sum_agrees(&ResidueRing::new(6)?, &Reverse, SIX, &parts, heap)
+    sum_agrees(rt, &ResidueRing::new(6)?, &Reverse, SIX, &parts, heap)
 }
 
 /// The answer to checking a list over six codes, compared with the one worked out.
@@ -93,7 +94,12 @@ fn exponents_up_to_255(rt: HostRuntime) -> Result<(), Fail> {
         let line = [Plain::new(power(k, 255), 3), Plain::new([0; 6], 3)];
         for (exponent, code, answer) in cases {
             let factor = Plain::new(power(k, exponent), code);
-            assert_eq!(rt; added(&line, factor, &line, rt.alloc())?, answer, "{}", k);
+            assert_eq!(rt;
+                added(&rt, &line, factor, &line, rt.alloc())?,
+                answer,
+                "{}",
+                k
+            );
         }
     }
     Ok(())
@@ -118,7 +124,7 @@ fn sums_of_64_and_65(rt: HostRuntime) -> Result<(), Fail> {
     ];
     for (count, exponent, code, line, answer) in cases {
         let factor = Plain::new(power(0, exponent), code);
-        let got = Powers::new(0, count, 1).added(factor, line, rt.alloc())?;
+        let got = Powers::new(0, count, 1).added(&rt, factor, line, rt.alloc())?;
         assert_eq!(rt; got, answer, "{count} {exponent} {code}");
     }
     Ok(())

@@ -119,6 +119,7 @@ fn held(list: &[Plain], heap: Global) -> Result<WorkingFormula, Fail> {
 
 /// Compares adding a step with the sum worked out at each term, or with the refusal that is due and memory as it was, and gives the answer.
 pub(crate) fn sum_agrees<R: Ring, O: Order>(
+    rt: &impl Abort,
     ring: &R,
     order: &O,
     model: Model,
@@ -130,13 +131,13 @@ pub(crate) fn sum_agrees<R: Ring, O: Order>(
     let line = held(parts.line, heap)?;
     let factor = parts.factor.packed().unwrap_or(Monomial { bits: 0 });
     let answer = number(add_step(ring, order, &mut work, factor, &line));
-    assert_eq!(answer, parts.verdict(model.counters), "answer");
+    assert_eq!(rt; answer, parts.verdict(model.counters), "answer");
     let right = if answer == 0 {
         is_sum(model, parts, work.monomials())
     } else {
         work.monomials() == before.monomials()
     };
-    assert!(right, "what is held after {answer}");
+    assert!(rt; right, "what is held after {answer}");
     Ok(answer)
 }
 
@@ -185,7 +186,7 @@ pub(crate) fn sums_agree<R: Ring, O: Order>(
             factor,
             line,
         };
-        seen = with_answer(seen, sum_agrees(ring, order, model, &parts, heap)?);
+        seen = with_answer(seen, sum_agrees(rt, ring, order, model, &parts, heap)?);
     }
     assert_eq!(rt; seen, 0b11_0000_0001, "granted, 8 and 9 are to come");
     Ok(())

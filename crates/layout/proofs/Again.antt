@@ -1,6 +1,6 @@
 -- What was read writes the bytes.
 use Rattle.std.proofs.Common.{◌≡◌, ℕ, zero, suc, ◌+◌, ◌-◌, ◌*◌, ◌^◌, ◌<◌, ◌≤◌, Bool, true, false, cond, ◌&&◌, ltb, leb, List, [], ◌∷◌, ◌++◌, length, take, drop, Some, None, Option, sym, refl, ap, ◌∙◌, subst, arith, take-add}
-use Rattle.std.specs.List.{flat_map, AllByRecursion as All}
+use Rattle.std.specs.List.{flat_map, AllByRecursion}
 use Rattle.std.proofs.lemmas.List.{append_assoc, append-nil, length-drop, take-append-drop}
 use Rattle.std.proofs.ByRecursion.{All-drop}
 use Rattle.std.proofs.lemmas.Bool.{ltb-false, leb-true, and_parts}
@@ -34,9 +34,9 @@ counted_range n e = let p = and_parts (leb 1 n) (leb n max_count) e in (leb-true
 pub record HeadRead (bs : List ℕ) (h : Read Counts) : Type 0 where
   pub spelt : bs ≡ head_bytes h.item.monomials h.item.steps ++ h.rest
   pub short : h.item.steps ≤ max_count
-  pub left : All Byte h.rest
+  pub left : AllByRecursion Byte h.rest
 
-steps_again : (b : ℕ) (bs : List ℕ) → steps_bit ≤ b → All Byte bs → Then (read_steps (b - steps_bit) bs) (HeadRead (b ∷ bs))
+steps_again : (b : ℕ) (bs : List ℕ) → steps_bit ≤ b → AllByRecursion Byte bs → Then (read_steps (b - steps_bit) bs) (HeadRead (b ∷ bs))
 steps_again b [] l h = tt
 steps_again b (zero ∷ bs) l h = tt
 steps_again b (suc m ∷ bs) l h =
@@ -47,7 +47,7 @@ steps_again b (suc m ∷ bs) l h =
       left = h.1;
     })
 
-head_again : (bs : List ℕ) → All Byte bs → Then (read_head bs) (HeadRead bs)
+head_again : (bs : List ℕ) → AllByRecursion Byte bs → Then (read_head bs) (HeadRead bs)
 head_again [] h = tt
 head_again (b ∷ bs) h =
     head_by (ltb b steps_bit) refl
@@ -60,13 +60,13 @@ head_again (b ∷ bs) h =
 pub record LineRead (bs : List ℕ) (r : Read Line) : Type 0 where
   pub spelt : bs ≡ line_bytes r.item ++ r.rest
   pub fits : FitsSheet r.item
-  pub left : All Byte r.rest
+  pub left : AllByRecursion Byte r.rest
 
 -- there are enough bytes for the steps after the monomials
 enough_left : (n m : ℕ) (bs : List ℕ) → body_size n m ≤ length bs → step_width * m ≤ length (drop (monomial_width * n) bs)
 enough_left n m bs l = simp length-drop (omega arith)
 
-body_again : (c : Counts) (bs : List ℕ) → All Byte bs → size_of c ≤ length bs → bs ≡ body_bytes (line_in c bs) ++ drop (size_of c) bs
+body_again : (c : Counts) (bs : List ℕ) → AllByRecursion Byte bs → size_of c ≤ length bs → bs ≡ body_bytes (line_in c bs) ++ drop (size_of c) bs
 body_again c bs h l =
     let i = monomial_width * c.monomials in
     let j = step_width * c.steps in
@@ -79,7 +79,7 @@ body_again c bs h l =
     ∙ take-append-drop (i + j) bs)
 
 -- the line read fits
-line_in_fits : (c : Counts) (bs : List ℕ) → All Byte bs → size_of c ≤ length bs → counted c.monomials ≡ true → c.steps ≤ max_count → FitsSheet (line_in c bs)
+line_in_fits : (c : Counts) (bs : List ℕ) → AllByRecursion Byte bs → size_of c ≤ length bs → counted c.monomials ≡ true → c.steps ≤ max_count → FitsSheet (line_in c bs)
 line_in_fits c bs h l e short =
     let range = counted_range c.monomials e in
     let after = drop (monomial_width * c.monomials) bs in
@@ -115,17 +115,17 @@ line_at bs h p =
       left = All-drop Byte k rest p.left;
     })
 
-pub line_again : (bs : List ℕ) → All Byte bs → Then (read_line bs) (LineRead bs)
+pub line_again : (bs : List ℕ) → AllByRecursion Byte bs → Then (read_line bs) (LineRead bs)
 line_again bs h = then_and (read_head bs) read_body (HeadRead bs) (LineRead bs) (head_again bs h) (line_at bs)
 
 -- bytes are n lines and the bytes after them
 pub record LinesRead (n : ℕ) (bs : List ℕ) (r : Read (List Line)) : Type 0 where
   pub spelt : bs ≡ flat_map line_bytes r.item ++ r.rest
   pub number : length r.item ≡ n
-  pub fit : All FitsSheet r.item
-  pub left : All Byte r.rest
+  pub fit : AllByRecursion FitsSheet r.item
+  pub left : AllByRecursion Byte r.rest
 
-pub lines_again : (n : ℕ) (bs : List ℕ) → All Byte bs → Then (read_lines n bs) (LinesRead n bs)
+pub lines_again : (n : ℕ) (bs : List ℕ) → AllByRecursion Byte bs → Then (read_lines n bs) (LinesRead n bs)
 lines_again zero bs h = record { spelt = refl; number = refl; fit = tt; left = h }
 lines_again (suc n) bs h =
     then_and (read_line bs) _ (LineRead bs) (LinesRead (suc n) bs) (line_again bs h) (λ r p.
@@ -146,7 +146,7 @@ whole_again kinds n bs ls [] few p = record {
 }
 whole_again kinds n bs ls (b ∷ rest) few p = tt
 
-sheet_again : (bs : List ℕ) → All Byte bs → Then (decoded bs) (SheetOf bs)
+sheet_again : (bs : List ℕ) → AllByRecursion Byte bs → Then (decoded bs) (SheetOf bs)
 sheet_again [] h = tt
 sheet_again (kinds ∷ []) h = tt
 sheet_again (kinds ∷ (n ∷ bs)) h =

@@ -1,6 +1,6 @@
 -- What was written is read.
 use Rattle.std.proofs.Common.{◌≡◌, ℕ, zero, suc, ◌+◌, ◌-◌, ◌*◌, ◌^◌, ◌<◌, ◌≤◌, true, ◌&&◌, ltb, leb, List, [], ◌∷◌, ◌++◌, length, drop, Some, sym, refl, ap, ◌∙◌, arith}
-use Rattle.std.specs.List.{flat_map, AllByRecursion as All}
+use Rattle.std.specs.List.{flat_map, AllByRecursion}
 use Rattle.std.proofs.lemmas.List.{append_assoc, append-nil, length-append, drop_at}
 use Rattle.std.proofs.lemmas.Bool.{cond-true, cond-false, lt-ltb, le-ltb, le-leb, and_from}
 use Rattle.layout.specs.Line.{Line, FitsSheet, PackedStep, max_count}
@@ -52,7 +52,7 @@ line_back l rest h =
     ∙ ap (λ x. Some (record { item = x; rest = drop k bs })) (body_back l rest h)
     ∙ ap (λ x. Some (record { item = l; rest = x })) (drop_at (body_bytes l) rest k (body_length l))
 
-pub lines_back : (ls : List Line) (rest : List ℕ) → All FitsSheet ls → read_lines (length ls) (flat_map line_bytes ls ++ rest) ≡ Some (record { item = ls; rest = rest })
+pub lines_back : (ls : List Line) (rest : List ℕ) → AllByRecursion FitsSheet ls → read_lines (length ls) (flat_map line_bytes ls ++ rest) ≡ Some (record { item = ls; rest = rest })
 lines_back [] rest h = refl
 lines_back (l ∷ ls) rest h =
     ap (read_lines (suc (length ls))) (append_assoc (line_bytes l) (flat_map line_bytes ls) rest)

@@ -1,6 +1,6 @@
 -- Monomials and steps as bytes, there and back.
 use Rattle.std.proofs.Common.{◌≡◌, ℕ, ◌+◌, ◌*◌, ◌/◌, ◌%◌, ◌^◌, ◌<◌, ◌≤◌, List, [], ◌∷◌, ◌++◌, length, get_or, take, sym, ap, ◌∙◌, ⊎_elim, arith}
-use Rattle.std.specs.List.{AllByRecursion as All}
+use Rattle.std.specs.List.{AllByRecursion}
 use Rattle.std.proofs.lemmas.List.{take_more, get_or_past}
 use Rattle.std.proofs.ByRecursion.{All-get_or}
 use Rattle.std.proofs.lemmas.Bool.{cases_lt}
@@ -35,7 +35,7 @@ number_of_digits a b c d e f g h p0 p1 p2 p3 p4 p5 p6 p7 =
     let e7 : n % 256 ≡ h = omega arith in
     cc
 
-pub monomial_again : (bs : List ℕ) → All Byte bs → monomial_width ≤ length bs → monomial_bytes (monomial_in bs) ≡ take monomial_width bs
+pub monomial_again : (bs : List ℕ) → AllByRecursion Byte bs → monomial_width ≤ length bs → monomial_bytes (monomial_in bs) ≡ take monomial_width bs
 monomial_again [] h l = absurd (omega arith)
 monomial_again (a ∷ []) h l = absurd (omega arith)
 monomial_again (a ∷ (b ∷ [])) h l = absurd (omega arith)
@@ -47,14 +47,14 @@ monomial_again (a ∷ (b ∷ (c ∷ (d ∷ (e ∷ (f ∷ (g ∷ []))))))) h l = 
 monomial_again (a ∷ (b ∷ (c ∷ (d ∷ (e ∷ (f ∷ (g ∷ (i ∷ bs)))))))) h l =
     number_of_digits a b c d e f g i h.0 h.1.0 h.1.1.0 h.1.1.1.0 h.1.1.1.1.0 h.1.1.1.1.1.0 h.1.1.1.1.1.1.0 h.1.1.1.1.1.1.1.0
 
-pub step_again : (bs : List ℕ) → All Byte bs → step_width ≤ length bs → step_bytes (step_in bs) ≡ take step_width bs
+pub step_again : (bs : List ℕ) → AllByRecursion Byte bs → step_width ≤ length bs → step_bytes (step_in bs) ≡ take step_width bs
 step_again bs h l = ap (λ ys. ys ++ (get_or bs monomial_width 0 ∷ [])) (monomial_again bs h (omega arith)) ∙ sym (take_more bs monomial_width 0 (omega arith))
 
 -- eight bytes write a number of 64 bits
-pub monomial_fits : (bs : List ℕ) → All Byte bs → (monomial_in bs).bits < 2 ^ 64
+pub monomial_fits : (bs : List ℕ) → AllByRecursion Byte bs → (monomial_in bs).bits < 2 ^ 64
 monomial_fits bs h =
     let b : (k : ℕ) → Byte (get_or bs k 0) = λ k. ⊎_elim (λ l. All-get_or Byte bs k 0 l h) (λ l. rw (get_or_past bs k 0 l) (omega arith)) (cases_lt k (length bs)) in
     omega (arith, b 0, b 1, b 2, b 3, b 4, b 5, b 6, b 7)
 
-pub step_fits : (bs : List ℕ) → All Byte bs → step_width ≤ length bs → PackedStep (step_in bs)
+pub step_fits : (bs : List ℕ) → AllByRecursion Byte bs → step_width ≤ length bs → PackedStep (step_in bs)
 step_fits bs h l = (monomial_fits bs h, All-get_or Byte bs monomial_width 0 (omega arith) h)

@@ -1,6 +1,6 @@
 -- The lines of a workbook, and which of them a sheet can hold.
 use Rattle.std.specs.Prelude.{ℕ, ◌^◌, ◌<◌, ◌≤◌, List, length}
-use Rattle.std.specs.List.{AllByRecursion as All}
+use Rattle.std.specs.List.{AllByRecursion}
 use Rattle.term.specs.declared.monomial.Monomial.{Monomial}
 use Rattle.term.specs.declared.monomial.Step.{Step}
 
@@ -26,5 +26,5 @@ pub record FitsSheet (l : Line) : Type 0 where
   pub some : 1 ≤ length l.formula
   pub few : length l.formula ≤ max_count
   pub short : length l.steps ≤ max_count
-  pub packed : All (λ m. m.bits < 2 ^ 64) l.formula
-  pub named : All PackedStep l.steps
+  pub packed : AllByRecursion (λ m. m.bits < 2 ^ 64) l.formula
+  pub named : AllByRecursion PackedStep l.steps

@@ -1,4 +1,6 @@
 //! The lines of a workbook and how a sheet spells them in bytes: definitions and theorems, with no computation.
+#![tactic(auto)]
+
 ghost use Rattle.layout.specs.Laws.{Canonical, LineSizes, ReadsBack};
 ghost use Rattle.layout.specs.Worked.{SheetLimits, WorkedSheet};
 

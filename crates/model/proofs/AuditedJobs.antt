@@ -1,6 +1,6 @@
 -- The jobs of a sheet in an audit: which are settled.
 use Rattle.std.proofs.Common.{◌≡◌, ℕ, ◌<◌, true, not, List, [], ◌∷◌, map, length, get_or, is_some, Some, None, Ok, Err, Decides, Option, Result, refl, ap, ◌∙◌, subst}
-use Rattle.std.specs.List.{AllByRecursion as All}
+use Rattle.std.specs.List.{AllByRecursion}
 use Rattle.std.proofs.ByRecursion.{All-get_or}
 use Rattle.std.proofs.lemmas.List.{length-map}
 use Rattle.std.proofs.lemmas.Bool.Decides.{Decides-below_and}
@@ -51,7 +51,7 @@ module _ (ring : CoefficientRing) (order : TermOrder) (F : List (List Monomial))
           ap (λ r. is_zero (then r (λ f. reduced ring order F (at_head ring F) audit_reductions f))) v.built
           ∙ ap is_zero (of_trace ring order F (at_head ring F) audit_reductions v.polynomial v.steps [] v.to_zero v.few)
 
-  module _ (entries : All (Entry ring order) F) where
+  module _ (entries : AllByRecursion (Entry ring order) F) where
     -- a head that divides is found
     found_dividing : (c : ℕ) (t : Term) → c < ring.size → DividedByLine ring (map line_of F) (record { coefficient = c; term = t }) → is_some (covering ring F c t) ≡ true
     found_dividing c t l d = by (covering ring F c t) refl

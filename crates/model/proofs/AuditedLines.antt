@@ -1,6 +1,6 @@
 -- The lines of a sheet in an audit: which are granted, one after another.
-use Rattle.std.proofs.Common.{◌≡◌, ℕ, zero, suc, ◌<◌, ◌≤◌, true, ◌&&◌, eqb, ltb, List, [], ◌∷◌, ◌++◌, length, take, is_ok as isOk, Some, None, Ok, Err, Decides, Option, Result, sym, refl, ap, ◌∙◌, subst, ap₂, arith}
-use Rattle.std.specs.List.{flat_map, AllByRecursion as All}
+use Rattle.std.proofs.Common.{◌≡◌, ℕ, zero, suc, ◌<◌, ◌≤◌, true, ◌&&◌, eqb, ltb, List, [], ◌∷◌, ◌++◌, length, take, is_ok, Some, None, Ok, Err, Decides, Option, Result, sym, refl, ap, ◌∙◌, subst, ap₂, arith}
+use Rattle.std.specs.List.{flat_map, AllByRecursion}
 use Rattle.std.proofs.ByRecursion.{All-weaker, Decides-by_and}
 use Rattle.std.proofs.lemmas.List.{append_assoc, append-nil}
 use Rattle.std.proofs.lemmas.Bool.{and_from, and_parts, eq-eqb, eqb-true}
@@ -60,7 +60,7 @@ module _ (ring : CoefficientRing) where
       let c : ℕ = code s.factor in
       Decides-and (ltb s.line n) (ltb 0 c && ltb c ring.size) (Decides-ltb s.line n) (Decides-and (ltb 0 c) (ltb c ring.size) (Decides-ltb 0 c) (Decides-ltb c ring.size))
 
-  both : (n : ℕ) (steps : List Step) → LawfulSteps ring n steps → All (IsStep n) steps
+  both : (n : ℕ) (steps : List Step) → LawfulSteps ring n steps → AllByRecursion (IsStep n) steps
   both n [] h = tt
   both n (s ∷ steps) h = ((h.0.0, h.1.0), both n steps (h.0.1, h.1.1))
 
@@ -72,12 +72,12 @@ module _ (ring : CoefficientRing) where
       (Decides-by_and (is_step ring n) (IsStep n) (are_steps ring n) (decides_step n) refl (λ _ _. refl) steps)
 
   module _ (order : TermOrder) where
-    pub decides_formula : (f : List Monomial) → Decides (isOk (checked ring order f)) (Formula ring order f)
-    decides_formula f = (λ h. (checked_exactly_formulas ring order f).0 (is_ok (checked ring order f) h), λ u. ap isOk ((checked_exactly_formulas ring order f).1 u))
+    pub decides_formula : (f : List Monomial) → Decides (is_ok (checked ring order f)) (Formula ring order f)
+    decides_formula f = (λ h. (checked_exactly_formulas ring order f).0 (when_ok (checked ring order f) h), λ u. ap is_ok ((checked_exactly_formulas ring order f).1 u))
       where
-        is_ok : (r : Result (Unit {0}) Refusal) → isOk r ≡ true → r ≡ Ok tt
-        is_ok (Ok x) h = refl
-        is_ok (Err refusal) h = false_true h
+        when_ok : (r : Result (Unit {0}) Refusal) → is_ok r ≡ true → r ≡ Ok tt
+        when_ok (Ok x) h = refl
+        when_ok (Err refusal) h = false_true h
 
     pub decides_derived : (F : List (List Monomial)) (f : List Monomial) (steps : List Step) → Decides (is_derived ring order F f steps) (Derived ring order F f steps)
     decides_derived F f [] = ((λ h. tt), λ h. refl)
@@ -90,13 +90,13 @@ module _ (ring : CoefficientRing) where
         let steps : List Step = line.steps in
         let last : Result X Refusal = provided (is_derived ring order F f steps) NotTheSum next in
         let middle : Result X Refusal = provided (are_steps ring (length F) steps) StepOutOfRange last in
-        let h₁ : middle ≡ Ok x = granted (isOk (checked ring order f)) NotASheet middle x h in
+        let h₁ : middle ≡ Ok x = granted (is_ok (checked ring order f)) NotASheet middle x h in
         let h₂ : last ≡ Ok x = granted (are_steps ring (length F) steps) StepOutOfRange last x h₁ in
         let lawful = (decides_steps (length F) steps).0 (passed (are_steps ring (length F) steps) StepOutOfRange last x h₁) in (
           record {
             fits = fits;
             lawful = record {
-              formula = (decides_formula f).0 (passed (isOk (checked ring order f)) NotASheet middle x h);
+              formula = (decides_formula f).0 (passed (is_ok (checked ring order f)) NotASheet middle x h);
               not_zero = has_head_if_long f fits.some;
               short = fits.short;
               earlier = lawful.0;
@@ -113,7 +113,7 @@ module _ (ring : CoefficientRing) where
         let steps : List Step = line.steps in
         let last : Result X Refusal = provided (is_derived ring order F f steps) NotTheSum next in
         let middle : Result X Refusal = provided (are_steps ring (length F) steps) StepOutOfRange last in
-        provided_true (isOk (checked ring order f)) NotASheet middle ((decides_formula f).1 k.lawful.formula)
+        provided_true (is_ok (checked ring order f)) NotASheet middle ((decides_formula f).1 k.lawful.formula)
         ∙ provided_true (are_steps ring (length F) steps) StepOutOfRange last ((decides_steps (length F) steps).1 (k.lawful.earlier, k.lawful.coefficients))
         ∙ provided_true (is_derived ring order F f steps) NotTheSum next ((decides_derived F f steps).1 k.lawful.sum)
 
@@ -130,14 +130,14 @@ module _ (ring : CoefficientRing) where
       pub number : length more ≡ n
       pub kept : KeptAfter before more
 
-    pub lines_kept : (n : ℕ) (before : List Line) (bytes : List ℕ) (lines : List Line) → All Byte bytes → lines_checked ring order n before bytes ≡ Ok lines → LinesWritten n before bytes lines
+    pub lines_kept : (n : ℕ) (before : List Line) (bytes : List ℕ) (lines : List Line) → AllByRecursion Byte bytes → lines_checked ring order n before bytes ≡ Ok lines → LinesWritten n before bytes lines
     lines_kept zero before [] lines b h = record { more = []; all = sym (ok_ok h) ∙ sym (append-nil before); spelt = refl; number = refl; kept = tt }
     lines_kept zero before (c ∷ bytes) lines b h = err_ok h
     lines_kept (suc n) before bytes lines b h = by (read_line bytes) (line_again bytes b) h (lines_kept n)
       where
         by : (o : Option (Read Line)) → Then o (LineRead bytes)
             → given o (λ r. line_checked ring order (formulas before) r.item (lines_checked ring order n (before ++ r.item ∷ []) r.rest)) ≡ Ok lines
-            → ((before : List Line) (bytes : List ℕ) (lines : List Line) → All Byte bytes → lines_checked ring order n before bytes ≡ Ok lines → LinesWritten n before bytes lines)
+            → ((before : List Line) (bytes : List ℕ) (lines : List Line) → AllByRecursion Byte bytes → lines_checked ring order n before bytes ≡ Ok lines → LinesWritten n before bytes lines)
             → LinesWritten (suc n) before bytes lines
         by None p h later = err_ok h
         by (Some r) p h later =

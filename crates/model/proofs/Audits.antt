@@ -1,6 +1,6 @@
 -- The audit passes exactly the sheets that keep the rules.
 use Rattle.std.proofs.Common.{◌≡◌, ℕ, ◌≤◌, eqb, leb, ◌↔◌, List, [], ◌∷◌, ◌++◌, length, Ok, Result, sym, refl, ap, ◌∙◌, subst, ap₂}
-use Rattle.std.specs.List.{flat_map, AllByRecursion as All}
+use Rattle.std.specs.List.{flat_map, AllByRecursion}
 use Rattle.std.proofs.lemmas.Bool.{eq-eqb, eqb-true, le-leb, leb-true}
 use Rattle.refusal.specs.declared.Refusal.{Refusal}
 use Rattle.refusal.specs.declared.Refusal.TheVariants.{NotASheet, NotSettled, OtherKinds}
@@ -22,7 +22,7 @@ use Rattle.model.proofs.AuditedJobs.{decides_jobs}
 
 module _ (ring : CoefficientRing) (order : TermOrder) where
   -- lines that keep the rules are formulas that are not zero
-  pub kept_entries : (before lines : List Line) → KeptAfter ring order before lines → All (Entry ring order) (formulas lines)
+  pub kept_entries : (before lines : List Line) → KeptAfter ring order before lines → AllByRecursion (Entry ring order) (formulas lines)
   kept_entries before [] k = tt
   kept_entries before (line ∷ lines) k = ((k.0.lawful.formula, k.0.lawful.not_zero), kept_entries (before ++ line ∷ []) lines k.1)
 
@@ -36,7 +36,7 @@ module _ (ring : CoefficientRing) (order : TermOrder) where
   abbrev pub counted : ℕ → List ℕ → Result (Unit {0}) Refusal
   counted n bytes = provided (leb n max_lines) NotASheet (walked n bytes)
 
-  passes_kept : (bytes : List ℕ) → All Byte bytes → audited ring order bytes ≡ Ok tt → SheetKept ring order bytes
+  passes_kept : (bytes : List ℕ) → AllByRecursion Byte bytes → audited ring order bytes ≡ Ok tt → SheetKept ring order bytes
   passes_kept [] b h = err_ok h
   passes_kept (kinds ∷ []) b h = err_ok h
   passes_kept (kinds ∷ n ∷ bytes) b h =
@@ -67,5 +67,5 @@ module _ (ring : CoefficientRing) (order : TermOrder) where
       ∙ provided_true (are_settled ring order (formulas lines) (jobs lines)) NotSettled (Ok tt) ((decides_jobs ring order (formulas lines) (kept_entries [] lines kept) (jobs lines)).1 k.every_job)
 
 -- bytes pass the audit exactly when they are the sheet of lines that keep the rules
-pub audited_exactly : (ring : CoefficientRing) (order : TermOrder) (bytes : List ℕ) → All Byte bytes → (audited ring order bytes ≡ Ok tt) ↔ SheetKept ring order bytes
+pub audited_exactly : (ring : CoefficientRing) (order : TermOrder) (bytes : List ℕ) → AllByRecursion Byte bytes → (audited ring order bytes ≡ Ok tt) ↔ SheetKept ring order bytes
 audited_exactly ring order bytes b = (passes_kept ring order bytes b, λ k. ap (audited ring order) k.written ∙ kept_passes ring order k.lines k.kept)

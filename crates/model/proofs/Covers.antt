@@ -1,6 +1,6 @@
 -- Lines all of whose jobs are settled meet the criterion, so they are a strong basis.
 use Rattle.std.proofs.Common.{◌≡◌, ℕ, zero, suc, ◌+◌, ◌-◌, ◌*◌, ◌<◌, ◌≤◌, List, [], ◌∷◌, map, length, get_or, Some, sym, refl, ap, ◌∙◌, subst, ap₂, mul-le-mul, arith}
-use Rattle.std.specs.List.{AllByRecursion as All}
+use Rattle.std.specs.List.{AllByRecursion}
 use Rattle.std.proofs.lemmas.List.{length-map}
 use Rattle.ring.specs.CoefficientRing.{CoefficientRing, Multiple}
 use Rattle.order.specs.Term.{Divides, Term, product}
@@ -8,7 +8,7 @@ use Rattle.order.specs.TermOrder.{TermOrder}
 use Rattle.term.specs.declared.monomial.Monomial.{Monomial}
 use Rattle.term.specs.declared.monomial.Step.{Step}
 use Rattle.formula.specs.Formula.{Formula, code, term}
-use Rattle.basis.specs.Polynomial.{Polynomial, coefficient}
+use Rattle.basis.specs.Polynomial.{Polynomial}
 use Rattle.basis.specs.Combination.{sum_of_steps}
 use Rattle.basis.specs.Basis.{DividedByLine, Headed, Line, StrongBasis, line_of as nth_line, polynomials}
 use Rattle.basis.specs.Criterion.{Criterion, LowRepresentation, StepBefore, a_polynomial, gcd_at_lcm, head_lcm, s_polynomial}
@@ -65,13 +65,13 @@ module _ (ring : CoefficientRing) (order : TermOrder) (F : List (List Monomial))
         };
       }
 
-  module _ (entries : All (Entry ring order) F) where
+  module _ (entries : AllByRecursion (Entry ring order) F) where
     good : Good ring order F
     good = good_of ring order F entries
 
     -- steps of a trace, with the other sign, lie before X among the lines of the theory
-    low_steps : (X : Term) (steps : List Step) → All (Lawful ring F) steps → All (λ s. order.before (product (term s.factor) (head_of (get_or F s.line [])).term) X) steps
-        → All (StepBefore ring order (map line_of F) X) (map step_of (trail_of ring steps))
+    low_steps : (X : Term) (steps : List Step) → AllByRecursion (Lawful ring F) steps → AllByRecursion (λ s. order.before (product (term s.factor) (head_of (get_or F s.line [])).term) X) steps
+        → AllByRecursion (StepBefore ring order (map line_of F) X) (map step_of (trail_of ring steps))
     low_steps X [] h l = tt
     low_steps X (s ∷ steps) h l = (
       record {
@@ -90,7 +90,7 @@ module _ (ring : CoefficientRing) (order : TermOrder) (F : List (List Monomial))
         summed_sum ring order F good [] (all_taken (polynomial_steps ring F j)) f (zero_formula ring order) (all_of_taken ring (λ s. code s.factor < ring.size) (polynomial_steps ring F j) (job_codes ring F j)) v.built in
         let value : (x : Term) → co ring f x ≡ worth ring F (polynomial_steps ring F j) x = λ x. w.1 x ∙ zero_left (code_ring ring) (worth ring F (all_taken (polynomial_steps ring F j)) x) ∙ worth_taken ring F (polynomial_steps ring F j) x in
         let trace = v.to_zero in
-        let lawful : All (Lawful ring F) v.steps = trace_all ring order F (at_head ring F) (Lawful ring F) (lawful_at_head ring F) f v.steps [] trace in
+        let lawful : AllByRecursion (Lawful ring F) v.steps = trace_all ring order F (at_head ring F) (Lawful ring F) (lawful_at_head ring F) f v.steps [] trace in
         let coded : CodedSteps ring v.steps = coded_steps ring F v.steps lawful in
         let z = summed_sum ring order F good f v.steps [] w.0 coded (trace_summed ring order F (at_head ring F) f v.steps [] trace) in
         record {
@@ -122,7 +122,7 @@ module _ (ring : CoefficientRing) (order : TermOrder) (F : List (List Monomial))
             → LowRepresentation ring order (map line_of F) (head_lcm (nth_line (map line_of F) i) (nth_line (map line_of F) k)) (s_polynomial ring (nth_line (map line_of F) i) (nth_line (map line_of F) k))
         subst₂' i k w = subst (λ (z : Line × Line). LowRepresentation ring order (map line_of F) (head_lcm z.0 z.1) (s_polynomial ring z.0 z.1)) (λ j. (sym (nth_plain F i) j, sym (nth_plain F k) j)) w
 
-module _ (ring : CoefficientRing) (order : TermOrder) (F : List (List Monomial)) (entries : All (Entry ring order) F) where
+module _ (ring : CoefficientRing) (order : TermOrder) (F : List (List Monomial)) (entries : AllByRecursion (Entry ring order) F) where
   -- all jobs settled: a strong basis
   pub strong_basis : ((j : ℕ) → j < length F * length F → JobKept ring order F (job j)) → StrongBasis ring order (map line_of F)
   strong_basis kept = criterion_makes_basis ring order (map line_of F) (meets_criterion ring order F entries

@@ -1,6 +1,6 @@
 -- What settling a job does: no line or one more line, which is the sum of its steps, and the job is settled; more lines keep that.
-use Rattle.std.proofs.Common.{◌≡◌, ℕ, zero, ◌+◌, ◌-◌, ◌^◌, ◌<◌, true, ◌⊎◌, List, [], ◌∷◌, ◌++◌, map, length, get_or, Some, Ok, sym, ap, ◌∙◌, subst, ap₂, arith}
-use Rattle.std.specs.List.{AllByRecursion as All}
+use Rattle.std.proofs.Common.{◌≡◌, ℕ, ◌-◌, ◌^◌, ◌<◌, true, ◌⊎◌, List, [], ◌∷◌, ◌++◌, map, length, get_or, Some, Ok, sym, ap, ◌∙◌, subst, ap₂, arith}
+use Rattle.std.specs.List.{AllByRecursion}
 use Rattle.std.proofs.lemmas.List.{length-append, length-map, map-append}
 use Rattle.ring.specs.CoefficientRing.{CoefficientRing}
 use Rattle.order.specs.TermOrder.{TermOrder}
@@ -25,7 +25,7 @@ use Rattle.model.specs.Grants.{Roomy}
 use Rattle.model.proofs.Outcomes.{false_true, none_some, ok_ok}
 use Rattle.model.proofs.Values.{CodedSteps, added_formula, zero_formula}
 use Rattle.model.proofs.Searches.{factor_code, fits_at, found}
-use Rattle.model.proofs.Traces.{Good, Summed, good_line, packed_steps, same_line, summed_more, summed_sum, trace_more}
+use Rattle.model.proofs.Traces.{Good, Summed, good_line, same_line, summed_more, summed_sum, trace_more}
 use Rattle.model.proofs.JobPolynomials.{Entry, all_of_taken, good_of, job_codes, job_packed}
 use Rattle.model.proofs.Covers.{nth_plain}
 use Rattle.model.proofs.Numbering.{Inside}
@@ -37,7 +37,7 @@ pub length_formulas : (lines : List Line) → length (formulas lines) ≡ length
 length_formulas lines = length-map lines (λ l. l.formula)
 
 -- the steps of a job name lines that are there
-job_names : (ring : CoefficientRing) (F : List (List Monomial)) (job : Job) → Inside (length F) job → All (λ s. s.line < length F) (polynomial_steps ring F job)
+job_names : (ring : CoefficientRing) (F : List (List Monomial)) (job : Job) → Inside (length F) job → AllByRecursion (λ s. s.line < length F) (polynomial_steps ring F job)
 job_names ring F (Job.A k) h = (h, tt)
 job_names ring F (Job.G i k) h = ((let a = h.0 in let b = h.1 in omega arith), (h.1, tt))
 job_names ring F (Job.S i k) h = ((let a = h.0 in let b = h.1 in omega arith), (h.1, tt))
@@ -88,7 +88,7 @@ module _ (ring : CoefficientRing) (order : TermOrder) (F more : List (List Monom
 pub record Grown (ring : CoefficientRing) (order : TermOrder) (F : List (List Monomial)) (line : Line) : Type 0 where
   pub lawful : LineLawful ring order F line
   pub packed : (line.steps ≡ [] → Packed line.formula) → Packed line.formula
-  pub packed_steps : All (λ s. s.factor.bits < 2 ^ 64) line.steps
+  pub packed_steps : AllByRecursion (λ s. s.factor.bits < 2 ^ 64) line.steps
 
 -- the lines after a job: the same, or one more that is no relation, and C holds of their formulas
 pub record OneMore (ring : CoefficientRing) (order : TermOrder) (lines after : List Line) (C : List (List Monomial) → Type 0) : Type 0 where
@@ -111,7 +111,7 @@ pub derived_of : (ring : CoefficientRing) (order : TermOrder) (F : List (List Mo
 derived_of ring order F f [] e = tt
 derived_of ring order F f (s ∷ steps) e = e
 
-module _ (ring : CoefficientRing) (order : TermOrder) (F : List (List Monomial)) (entries : All (Entry ring order) F) where
+module _ (ring : CoefficientRing) (order : TermOrder) (F : List (List Monomial)) (entries : AllByRecursion (Entry ring order) F) where
   pub good : Good ring order F
   good = good_of ring order F entries
 
@@ -139,7 +139,7 @@ module _ (ring : CoefficientRing) (order : TermOrder) (F : List (List Monomial))
           let zero : q ≡ (code_ring ring).zero = sym (negative_twice (code_ring ring) q) ∙ ap (code_ring ring).negative (same_code ring ((code_ring ring).negative q) (code_ring ring).zero z) ∙ negative_of_zero (code_ring ring) in
           absurd_zero (code m) u.coefficients.0.0 (sym p ∙ ap (λ c. c.0) (ap (λ c. (code_ring ring).product c r) zero ∙ zero_times (code_ring ring) r))
 
-  pub coefficients_of_trace : (f : List Monomial) (steps : List Step) (g : List Monomial) → Formula ring order f → ReducesTo ring order F (at_head ring F) f steps g → All (λ s. Coefficient ring (code s.factor)) steps
+  pub coefficients_of_trace : (f : List Monomial) (steps : List Step) (g : List Monomial) → Formula ring order f → ReducesTo ring order F (at_head ring F) f steps g → AllByRecursion (λ s. Coefficient ring (code s.factor)) steps
   coefficients_of_trace f [] g u t = tt
   coefficients_of_trace f (s ∷ steps) g u t =
       let c = coefficient_at_head f s u t.1 in
@@ -152,10 +152,10 @@ module _ (ring : CoefficientRing) (order : TermOrder) (F : List (List Monomial))
   pub start_codes : (job : Job) → CodedSteps ring (start_steps job)
   start_codes job = all_of_taken ring (λ s. code s.factor < ring.size) (polynomial_steps ring F job) (job_codes ring F job)
 
-  pub start_names : (job : Job) → Inside (length F) job → All (λ s. s.line < length F) (start_steps job)
+  pub start_names : (job : Job) → Inside (length F) job → AllByRecursion (λ s. s.line < length F) (start_steps job)
   start_names job h = all_of_taken ring (λ s. s.line < length F) (polynomial_steps ring F job) (job_names ring F job h)
 
-  pub start_packed : (job : Job) → All (λ s. s.factor.bits < 2 ^ 64) (start_steps job)
+  pub start_packed : (job : Job) → AllByRecursion (λ s. s.factor.bits < 2 ^ 64) (start_steps job)
   start_packed job = all_of_taken ring (λ s. s.factor.bits < 2 ^ 64) (polynomial_steps ring F job) (job_packed ring F job)
 
   pub start_sum : (job : Job) (f : List Monomial) → job_polynomial ring order F job ≡ Ok f → Summed ring order F [] (start_steps job) f

@@ -1,6 +1,6 @@
 -- Steps that lie before a term: what takes heads away from a formula that is zero from a term on stays before that term.
-use Rattle.std.proofs.Common.{◌≡◌, zero, ◌-◌, ◌<◌, ◌⊎◌, List, [], ◌∷◌, get_or, Some, sym, refl, ap, ◌∙◌, subst, ap₂, inl, inr, arith}
-use Rattle.std.specs.List.{AllByRecursion as All}
+use Rattle.std.proofs.Common.{◌≡◌, ◌-◌, ◌<◌, ◌⊎◌, List, [], ◌∷◌, get_or, Some, sym, refl, ap, ◌∙◌, subst, ap₂, inl, inr, arith}
+use Rattle.std.specs.List.{AllByRecursion}
 use Rattle.ring.specs.CoefficientRing.{CoefficientRing}
 use Rattle.order.specs.Term.{Term, product}
 use Rattle.order.specs.TermOrder.{TermOrder}
@@ -77,7 +77,7 @@ module _ (ring : CoefficientRing) (order : TermOrder) where
 
     -- every step of a trace from a formula under X lies before X
     pub trace_before : (X : Term) (f : List Monomial) (steps : List Step) (g : List Monomial) → Formula ring order f → Under X (co ring f) → ReducesTo ring order F (at_head ring F) f steps g
-        → All (λ s. order.before (product (term s.factor) (head_of (get_or F s.line [])).term) X) steps
+        → AllByRecursion (λ s. order.before (product (term s.factor) (head_of (get_or F s.line [])).term) X) steps
     trace_before X f [] g h u t = tt
     trace_before X f (s ∷ steps) g h u t = (low, trace_before X t.0 steps g (added_formula ring order f s.factor (get_or F s.line []) t.0 h line coded t.2) under t.3)
       where

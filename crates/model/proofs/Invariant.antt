@@ -1,7 +1,7 @@
 -- What holds of the workbook after every list of calls.
 use Rattle.std.proofs.Common.{◌≡◌, ℕ, zero, suc, ◌+◌, ◌*◌, ◌<◌, Bool, true, false, cond, leb, List, [], ◌∷◌, ◌++◌, length, Ok, Err, Result, sym, refl, ap, ◌∙◌, subst, inl, inr, append_assoc, append-nil, arith}
 use native.Mathlib.Decide.{dec_lt}
-use Rattle.std.specs.List.{AllByRecursion as All}
+use Rattle.std.specs.List.{AllByRecursion}
 use Rattle.std.proofs.lemmas.List.{length-append, length_push}
 use Rattle.std.proofs.ByRecursion.{All-append}
 use Rattle.std.proofs.lemmas.Bool.{and_parts, leb-false, leb-true}
@@ -76,7 +76,7 @@ module _ (ring : CoefficientRing) (order : TermOrder) where
 
   pub record Sound (state : State) : Type 0 where
     pub within : WithinLimits state
-    pub entries : All (Entry ring order) (formulas state.lines)
+    pub entries : AllByRecursion (Entry ring order) (formulas state.lines)
     pub grown : AllGrown [] state.lines
     pub settled : (j : ℕ) → j < state.settled → Inside (length (formulas state.lines)) (job j) × JobKept ring order (formulas state.lines) (job j)
 
@@ -89,7 +89,7 @@ module _ (ring : CoefficientRing) (order : TermOrder) where
       let F = formulas lines in
       record {
         within = within_line lines n line r s.within;
-        entries = subst (All (Entry ring order)) (sym (formulas_push lines line)) (All-append (Entry ring order) F (line.formula ∷ []) s.entries ((g.lawful.formula, g.lawful.not_zero), tt));
+        entries = subst (AllByRecursion (Entry ring order)) (sym (formulas_push lines line)) (All-append (Entry ring order) F (line.formula ∷ []) s.entries ((g.lawful.formula, g.lawful.not_zero), tt));
         grown = grown_push [] lines line s.grown g;
         settled = λ j h. subst (λ G. Settled G j) (sym (formulas_push lines line)) (settled_more F (line.formula ∷ []) j (s.settled j h));
       }

@@ -1,6 +1,6 @@
 -- The polynomials of jobs: the steps of a job give its A-, G- or S-polynomial, and those of A and S are zero from the top on.
-use Rattle.std.proofs.Common.{◌≡◌, ℕ, zero, suc, ◌^◌, ◌<◌, ◌≤◌, Bool, true, false, cond, eqb, List, [], ◌∷◌, ◌++◌, length, get_or, sym, refl, ap, ◌∙◌, subst, ap₂, arith}
-use Rattle.std.specs.List.{AllByRecursion as All}
+use Rattle.std.proofs.Common.{◌≡◌, ℕ, suc, ◌^◌, ◌<◌, ◌≤◌, Bool, true, false, cond, eqb, List, [], ◌∷◌, ◌++◌, length, get_or, sym, refl, ap, ◌∙◌, subst, ap₂, arith}
+use Rattle.std.specs.List.{AllByRecursion}
 use Rattle.std.proofs.lemmas.Bool.{eqb-true, eqb-false}
 use Rattle.std.proofs.ByRecursion.{All-get_or, All-weaker}
 use Rattle.ring.specs.CoefficientRing.{CoefficientRing}
@@ -52,22 +52,22 @@ module _ (ring : CoefficientRing) where
       by false e rest = ap (λ y. multiple ring s.factor (get_or F s.line []) t + y) rest
 
   -- what holds of all steps holds of those taken, and those have a coefficient
-  pub all_of_taken : (P : Step → Type 0) (steps : List Step) → All P steps → All P (all_taken steps)
+  pub all_of_taken : (P : Step → Type 0) (steps : List Step) → AllByRecursion P steps → AllByRecursion P (all_taken steps)
   all_of_taken P [] h = tt
   all_of_taken P (s ∷ steps) h = by (eqb (code s.factor) 0) (all_of_taken P steps h.1)
     where
-      by : (b : Bool) → All P (all_taken steps) → All P (cond b [] (s ∷ []) ++ all_taken steps)
+      by : (b : Bool) → AllByRecursion P (all_taken steps) → AllByRecursion P (cond b [] (s ∷ []) ++ all_taken steps)
       by true rest = rest
       by false rest = (h.0, rest)
 
-  pub taken_coefficients : (steps : List Step) → CodedSteps ring steps → All (λ s. Coefficient ring (code s.factor)) (all_taken steps)
+  pub taken_coefficients : (steps : List Step) → CodedSteps ring steps → AllByRecursion (λ s. Coefficient ring (code s.factor)) (all_taken steps)
   taken_coefficients [] h = tt
   taken_coefficients (s ∷ steps) h = by (eqb (code s.factor) 0) refl (taken_coefficients steps h.1)
     where
       positive : (c : ℕ) → (c ≡ 0 → ⊥) → 0 < c
       positive c n = omega arith
 
-      by : (b : Bool) → eqb (code s.factor) 0 ≡ b → All (λ s. Coefficient ring (code s.factor)) (all_taken steps) → All (λ s. Coefficient ring (code s.factor)) (cond b [] (s ∷ []) ++ all_taken steps)
+      by : (b : Bool) → eqb (code s.factor) 0 ≡ b → AllByRecursion (λ s. Coefficient ring (code s.factor)) (all_taken steps) → AllByRecursion (λ s. Coefficient ring (code s.factor)) (cond b [] (s ∷ []) ++ all_taken steps)
       by true e rest = rest
       by false e rest = ((positive (code s.factor) (eqb-false (code s.factor) 0 e), h.0), rest)
 
@@ -126,7 +126,7 @@ module _ (ring : CoefficientRing) where
   built : (t : Term) (c k : ℕ) → Fits t → c < ring.size → Built (record { factor = monomial t c; line = k })
   built t c k h l = (subst (λ z. z < ring.size) (sym (code_of_monomial ring t c l)) l, monomial_packed ring t c h l)
 
-  job_built : (F : List (List Monomial)) (job : Job) → All Built (polynomial_steps ring F job)
+  job_built : (F : List (List Monomial)) (job : Job) → AllByRecursion Built (polynomial_steps ring F job)
   job_built F (Job.A k) = (built unit (ring.annihilator (head_of (get_or F k [])).coefficient) k unit_fits (ring.annihilator_below (head_of (get_or F k [])).coefficient), tt)
   job_built F (Job.G i k) =
       let l : Line = line_of (get_or F i []) in
@@ -146,7 +146,7 @@ module _ (ring : CoefficientRing) where
   pub job_codes : (F : List (List Monomial)) (job : Job) → CodedSteps ring (polynomial_steps ring F job)
   job_codes F job = All-weaker Built (λ s. code s.factor < ring.size) (λ s h. h.0) (polynomial_steps ring F job) (job_built F job)
 
-  pub job_packed : (F : List (List Monomial)) (job : Job) → All (λ s. s.factor.bits < 2 ^ 64) (polynomial_steps ring F job)
+  pub job_packed : (F : List (List Monomial)) (job : Job) → AllByRecursion (λ s. s.factor.bits < 2 ^ 64) (polynomial_steps ring F job)
   job_packed F job = All-weaker Built (λ s. s.factor.bits < 2 ^ 64) (λ s h. h.1) (polynomial_steps ring F job) (job_built F job)
 
   pub job_few : (F : List (List Monomial)) (job : Job) → length (polynomial_steps ring F job) ≤ 2
@@ -159,7 +159,7 @@ abbrev pub Entry : CoefficientRing → TermOrder → List Monomial → Type 0
 Entry ring order f = Formula ring order f × (has_head f ≡ true)
 
 module _ (ring : CoefficientRing) (order : TermOrder) where
-  pub good_of : (F : List (List Monomial)) → All (Entry ring order) F → Good ring order F
+  pub good_of : (F : List (List Monomial)) → AllByRecursion (Entry ring order) F → Good ring order F
   good_of [] h = tt
   good_of (f ∷ F) h = (h.0.0, good_of F h.1)
 
@@ -167,7 +167,7 @@ module _ (ring : CoefficientRing) (order : TermOrder) where
   headed_entry [] e = false_true e.1
   headed_entry (m ∷ f) e = headed ring order m f e.0
 
-  module _ (F : List (List Monomial)) (entries : All (Entry ring order) F) where
+  module _ (F : List (List Monomial)) (entries : AllByRecursion (Entry ring order) F) where
     pub headed_line : (k : ℕ) → k < length F → Headed ring order (numbered_line ring F k)
     headed_line k h = headed_entry (get_or F k []) (All-get_or (Entry ring order) F k [] h entries)
 

@@ -1,6 +1,6 @@
 -- What a relate, a reduction, a remainder, a decision and a write are refused, in order.
 use Rattle.std.proofs.Common.{◌≡◌, ℕ, zero, suc, ◌+◌, ◌<◌, ◌≤◌, min, Bool, false, cond, ltb, leb, List, [], ◌∷◌, ◌++◌, length, get_or, Some, Ok, Err, Decides, Option, Result, refl, ap, ◌∙◌, arith}
-use Rattle.std.specs.List.{AllByRecursion as All}
+use Rattle.std.specs.List.{AllByRecursion}
 use Rattle.std.proofs.lemmas.Bool.{and_from, and_left, and_right, cond-false, cond-true, le-leb, le-ltb, lt-leb, lt-ltb}
 use Rattle.std.proofs.ByRecursion.{Decides-by_and}
 use Rattle.refusal.specs.declared.Refusal.{Refusal}
@@ -70,7 +70,7 @@ module _ (ring : CoefficientRing) (order : TermOrder) where
         (λ refusal e. start ∙ ap (λ r. then r (with_lines ring order state)) e) (λ e. start ∙ ap (λ r. then r (with_lines ring order state)) e);
   }
 
-  decides_fit : (s : Monomial) (f : List Monomial) → Decides (products_fit s f) (All (λ m. Divides (product (term s) (term m)) (level 255)) f)
+  decides_fit : (s : Monomial) (f : List Monomial) → Decides (products_fit s f) (AllByRecursion (λ m. Divides (product (term s) (term m)) (level 255)) f)
   decides_fit s f =
       Decides-by_and (λ m. fits (product (term s) (term m))) (λ m. Divides (product (term s) (term m)) (level 255)) (products_fit s) (λ m. division_laws.decided (product (term s) (term m)) (level 255)) refl (λ _ _. refl) f
 

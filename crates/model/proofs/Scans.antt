@@ -1,7 +1,7 @@
 -- Going down a formula leaves what lowering its greatest monomials leaves, since a step changes no greater monomial.
 use Rattle.std.proofs.Common.{◌≡◌, ℕ, zero, suc, ◌-◌, ◌<◌, min, true, List, [], ◌∷◌, ◌++◌, length, get_or, take, drop, Some, None, Ok, Err, Option, Result, Greater, sym, refl, ap, ◌∙◌, subst, append_assoc, append-nil, arith}
 use Rattle.std.specs.Option.{option_or}
-use Rattle.std.specs.List.{AllByRecursion as All}
+use Rattle.std.specs.List.{AllByRecursion}
 use Rattle.std.proofs.lemmas.List.{take-append-drop, take_at}
 use Rattle.std.proofs.lemmas.Bool.{and_parts}
 use Rattle.refusal.specs.declared.Refusal.{Refusal}
@@ -36,12 +36,12 @@ kept_is : (m : Monomial) → 0 < code m → kept m ≡ m ∷ []
 kept_is m h = kept_cases (λ k. k ≡ m ∷ []) m (λ z. absurd (omega arith)) (λ _. refl)
 
 module _ (ring : CoefficientRing) (order : TermOrder) where
-  nonzero_prefix : (done rest : List Monomial) → All (λ d. 0 < code d) done → nonzero (done ++ rest) ≡ done ++ nonzero rest
+  nonzero_prefix : (done rest : List Monomial) → AllByRecursion (λ d. 0 < code d) done → nonzero (done ++ rest) ≡ done ++ nonzero rest
   nonzero_prefix [] rest h = refl
   nonzero_prefix (d ∷ done) rest h = ap (λ z. z ++ nonzero (done ++ rest)) (kept_is d h.0) ∙ ap (λ z. d ∷ z) (nonzero_prefix done rest h.1)
 
   -- monomials that are greater than all of g stay in front of a sum with g
-  merged_prefix : (done rest g : List Monomial) → All (λ d. 0 < code d) done → All (λ d. All (λ p. order.before (term p) (term d)) g) done → merged ring order (done ++ rest) g ≡ done ++ merged ring order rest g
+  merged_prefix : (done rest g : List Monomial) → AllByRecursion (λ d. 0 < code d) done → AllByRecursion (λ d. AllByRecursion (λ p. order.before (term p) (term d)) g) done → merged ring order (done ++ rest) g ≡ done ++ merged ring order rest g
   merged_prefix [] rest g h b = refl
   merged_prefix (d ∷ done) [] [] h b = nonzero_prefix (d ∷ done) [] h
   merged_prefix (d ∷ done) (m ∷ rest) [] h b = nonzero_prefix (d ∷ done) (m ∷ rest) h
@@ -50,33 +50,33 @@ module _ (ring : CoefficientRing) (order : TermOrder) where
       ∙ ap (λ z. z ++ merged ring order (done ++ rest) (p ∷ g)) (kept_is d h.0) ∙ ap (λ z. d ∷ z) (merged_prefix done rest (p ∷ g) h.1 b.1)
 
   -- the products of a factor with a list whose raised terms are before u
-  products_before : (s : Monomial) (u : Term) (f : List Monomial) → products_fit s f ≡ true → All (λ x. order.before (product (term s) (term x)) u) f → All (λ p. order.before (term p) u) (multiplied ring s f)
+  products_before : (s : Monomial) (u : Term) (f : List Monomial) → products_fit s f ≡ true → AllByRecursion (λ x. order.before (product (term s) (term x)) u) f → AllByRecursion (λ p. order.before (term p) u) (multiplied ring s f)
   products_before s u [] fit h = tt
   products_before s u (x ∷ f) fit h =
       let p = and_parts (fits (product (term s) (term x))) (products_fit s f) fit in
       (subst (λ z. order.before z u) (sym (term_times ring s x p.0)) h.0, products_before s u f p.1 h.1)
 
-  line_before : (s : Monomial) (t u : Term) (x : Monomial) (f : List Monomial) → product (term s) (term x) ≡ t → order.before t u → Falling order (x ∷ f) → All (λ y. order.before (product (term s) (term y)) u) (x ∷ f)
+  line_before : (s : Monomial) (t u : Term) (x : Monomial) (f : List Monomial) → product (term s) (term x) ≡ t → order.before t u → Falling order (x ∷ f) → AllByRecursion (λ y. order.before (product (term s) (term y)) u) (x ∷ f)
   line_before s t u x f e b h = (subst (λ z. order.before z u) (sym e) b, rest f h.0)
     where
-      rest : (g : List Monomial) → All (λ y. order.before (term y) (term x)) g → All (λ y. order.before (product (term s) (term y)) u) g
+      rest : (g : List Monomial) → AllByRecursion (λ y. order.before (term y) (term x)) g → AllByRecursion (λ y. order.before (product (term s) (term y)) u) g
       rest [] l = tt
       rest (y ∷ g) l = (order.transitive (product (term s) (term y)) t u (subst (λ z. order.before (product (term s) (term y)) z) e (order.kept_by_product (term s) (term y) (term x) l.0)) b, rest g l.1)
 
   -- what stands before m in a formula is greater, and has coefficients
-  greater_before : (done : List Monomial) (m : Monomial) (rest : List Monomial) → Falling order (done ++ m ∷ rest) → All (λ d. order.before (term m) (term d)) done
+  greater_before : (done : List Monomial) (m : Monomial) (rest : List Monomial) → Falling order (done ++ m ∷ rest) → AllByRecursion (λ d. order.before (term m) (term d)) done
   greater_before [] m rest h = tt
   greater_before (d ∷ done) m rest h = (at_m done h.0, greater_before done m rest h.1)
     where
-      at_m : (xs : List Monomial) → All (λ n. order.before (term n) (term d)) (xs ++ m ∷ rest) → order.before (term m) (term d)
+      at_m : (xs : List Monomial) → AllByRecursion (λ n. order.before (term n) (term d)) (xs ++ m ∷ rest) → order.before (term m) (term d)
       at_m [] a = a.0
       at_m (x ∷ xs) a = at_m xs a.1
 
-  front : (P : Monomial → Type 0) (done rest : List Monomial) → All P (done ++ rest) → All P done
+  front : (P : Monomial → Type 0) (done rest : List Monomial) → AllByRecursion P (done ++ rest) → AllByRecursion P done
   front P [] rest h = tt
   front P (d ∷ done) rest h = (h.0, front P done rest h.1)
 
-  positive : (done : List Monomial) → All (λ m. Coefficient ring (code m)) done → All (λ d. 0 < code d) done
+  positive : (done : List Monomial) → AllByRecursion (λ m. Coefficient ring (code m)) done → AllByRecursion (λ d. 0 < code d) done
   positive [] h = tt
   positive (d ∷ done) h = (h.0.0, positive done h.1)
 
@@ -96,8 +96,8 @@ module _ (ring : CoefficientRing) (order : TermOrder) where
         (all_before v.head v.rest at_m gr.fitting line.falling_terms done (greater_before done m rest u.falling_terms)))
         ∙ take_at done (merged ring order (m ∷ rest) (multiplied ring s.factor (v.head ∷ v.rest))) (length done) refl
       where
-        all_before : (x : Monomial) (f : List Monomial) → product (term s.factor) (term x) ≡ term m → products_fit s.factor (x ∷ f) ≡ true → Falling order (x ∷ f) → (ds : List Monomial) → All (λ d. order.before (term m) (term d)) ds
-            → All (λ d. All (λ p. order.before (term p) (term d)) (multiplied ring s.factor (x ∷ f))) ds
+        all_before : (x : Monomial) (f : List Monomial) → product (term s.factor) (term x) ≡ term m → products_fit s.factor (x ∷ f) ≡ true → Falling order (x ∷ f) → (ds : List Monomial) → AllByRecursion (λ d. order.before (term m) (term d)) ds
+            → AllByRecursion (λ d. AllByRecursion (λ p. order.before (term p) (term d)) (multiplied ring s.factor (x ∷ f))) ds
         all_before x f e fit fall [] h = tt
         all_before x f e fit fall (d ∷ ds) h = (products_before s.factor (term d) (x ∷ f) fit (line_before s.factor (term m) (term d) x f e h.0 fall), all_before x f e fit fall ds h.1)
 

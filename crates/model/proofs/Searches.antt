@@ -1,7 +1,7 @@
 -- The search for a line: what it finds, what it means that none is found, and that more lines change nothing found.
 use Rattle.std.proofs.Common.{◌≡◌, ℕ, suc, ◌+◌, ◌-◌, ◌<◌, ◌≤◌, Bool, true, false, cond, List, [], ◌∷◌, ◌++◌, length, get_or, Some, None, Option, sym, refl, ap, ◌∙◌, arith}
 use Rattle.std.specs.Option.{option_map}
-use Rattle.std.specs.List.{AllByRecursion as All}
+use Rattle.std.specs.List.{AllByRecursion}
 use Rattle.std.proofs.lemmas.Bool.{cond-true}
 use Rattle.ring.specs.CoefficientRing.{CoefficientRing}
 use Rattle.order.specs.Term.{Divides, Term, divides, product, quotient}
@@ -42,11 +42,11 @@ found test k (f ∷ F) s h = by (test f) refl h (found test (suc k) F s)
           passed = ap (λ j. test (get_or (f ∷ F) j [])) z ∙ w.passed;
         }
 
-pub none_found : (test : List Monomial → Option Monomial) (k : ℕ) (F : List (List Monomial)) → lowest test k F ≡ None → All (λ f. test f ≡ None) F
+pub none_found : (test : List Monomial → Option Monomial) (k : ℕ) (F : List (List Monomial)) → lowest test k F ≡ None → AllByRecursion (λ f. test f ≡ None) F
 none_found test k [] h = tt
 none_found test k (f ∷ F) h = by (test f) refl h (none_found test (suc k) F)
   where
-    by : (o : Option Monomial) → test f ≡ o → named k o (lowest test (suc k) F) ≡ None → (lowest test (suc k) F ≡ None → All (λ f. test f ≡ None) F) → (test f ≡ None) × All (λ f. test f ≡ None) F
+    by : (o : Option Monomial) → test f ≡ o → named k o (lowest test (suc k) F) ≡ None → (lowest test (suc k) F ≡ None → AllByRecursion (λ f. test f ≡ None) F) → (test f ≡ None) × AllByRecursion (λ f. test f ≡ None) F
     by (Some m) e h later = none_some (sym h)
     by None e h later = (e, later h)
 

@@ -1,6 +1,6 @@
 -- A line takes itself away: what head reduction leaves comes to zero by one step more once it is a line.
-use Rattle.std.proofs.Common.{◌≡◌, ℕ, ◌+◌, ◌<◌, true, eqb, List, [], ◌∷◌, ◌++◌, length, Some, None, Ok, Equal, sym, refl, ap, ◌∙◌, arith}
-use Rattle.std.specs.List.{AllByRecursion as All}
+use Rattle.std.proofs.Common.{◌≡◌, ℕ, ◌<◌, true, eqb, List, [], ◌∷◌, ◌++◌, length, Some, None, Ok, Equal, sym, refl, ap, ◌∙◌, arith}
+use Rattle.std.specs.List.{AllByRecursion}
 use Rattle.std.proofs.lemmas.List.{get_or_push}
 use Rattle.std.proofs.lemmas.Bool.{and_from, cond-true, eq-eqb}
 use Rattle.refusal.specs.declared.Refusal.TheVariants.{ExponentTooLarge}
@@ -50,7 +50,7 @@ module _ (ring : CoefficientRing) (order : TermOrder) where
   gone m h = cond-true (eqb (code (plus ring m (times ring minus_one m))) 0) [] _ (eq-eqb _ 0
       (code_plus ring m (times ring minus_one m) ∙ ap (ring.sum (code m)) (code_times ring minus_one m ∙ ap (λ z. ring.product z (code m)) minus_code ∙ minus_times (code m) h) ∙ ring.sum_with_negative (code m) h))
 
-  merged_self : (f : List Monomial) → All (λ m. Coefficient ring (code m)) f → merged ring order f (multiplied ring minus_one f) ≡ []
+  merged_self : (f : List Monomial) → AllByRecursion (λ m. Coefficient ring (code m)) f → merged ring order f (multiplied ring minus_one f) ≡ []
   merged_self [] h = refl
   merged_self (m ∷ f) h =
       let n : Monomial = times ring minus_one m in

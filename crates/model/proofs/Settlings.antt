@@ -1,6 +1,6 @@
 -- The outcome of each job: its line, if it enters one, and that the job is settled then.
-use Rattle.std.proofs.Common.{◌≡◌, ℕ, ◌+◌, ◌^◌, ◌<◌, ◌≤◌, List, [], ◌∷◌, ◌++◌, map, length, get_or, Some, None, Ok, Option, sym, refl, ap, ◌∙◌, subst, ap₂, inl, inr, arith}
-use Rattle.std.specs.List.{AllByRecursion as All}
+use Rattle.std.proofs.Common.{◌≡◌, ℕ, ◌^◌, ◌<◌, ◌≤◌, List, [], ◌∷◌, ◌++◌, map, length, get_or, Some, None, Ok, Option, sym, refl, ap, ◌∙◌, subst, ap₂, inl, inr, arith}
+use Rattle.std.specs.List.{AllByRecursion}
 use Rattle.std.proofs.lemmas.List.{get_or_push, length-append, length-map}
 use Rattle.std.proofs.ByRecursion.{All-append, All-get_or}
 use Rattle.ring.specs.CoefficientRing.{CoefficientRing}
@@ -10,7 +10,7 @@ use Rattle.order.proofs.Terms.{lcm_laws}
 use Rattle.term.specs.declared.monomial.Monomial.{Monomial}
 use Rattle.term.specs.declared.monomial.Step.{Step}
 use Rattle.formula.specs.Formula.{Coefficient, Formula, code, term}
-use Rattle.basis.specs.Polynomial.{Monomial as PlainMonomial, coefficient}
+use Rattle.basis.specs.Polynomial.{Monomial as PlainMonomial}
 use Rattle.basis.specs.Basis.{DividedByLine, DividesMonomial, Head, Line as PlainLine, line_of as nth_line}
 use Rattle.basis.specs.Criterion.{gcd_at_lcm}
 use Rattle.basis.proofs.Rings.{one_times, zero_left, zero_times}
@@ -36,13 +36,13 @@ use Rattle.model.proofs.Numbering.{Inside}
 use Rattle.model.proofs.Grants.{entered_exactly}
 use Rattle.model.proofs.Growth.{Grown, Outcome, coefficients_of_trace, derived_of, good, polynomial_more, same_numbered, some_steps, start_codes, start_names, start_packed, start_steps, start_sum}
 
-module _ (ring : CoefficientRing) (order : TermOrder) (lines after : List Line) (entries : All (Entry ring order) (formulas lines)) where
+module _ (ring : CoefficientRing) (order : TermOrder) (lines after : List Line) (entries : AllByRecursion (Entry ring order) (formulas lines)) where
   abbrev F : List (List Monomial)
   F = formulas lines
 
   -- a line that is the sum of steps is grown
-  grown_line : (steps : List Step) (m : Monomial) (f : List Monomial) → Formula ring order (m ∷ f) → length steps ≤ max_count → All (λ s. s.line < length (formulas lines)) steps → All (λ s. Coefficient ring (code s.factor)) steps
-      → All (λ s. s.factor.bits < 2 ^ 64) steps → CodedSteps ring steps → summed ring order (formulas lines) [] steps ≡ Ok (m ∷ f) → Grown ring order (formulas lines) (record { formula = m ∷ f; steps = steps })
+  grown_line : (steps : List Step) (m : Monomial) (f : List Monomial) → Formula ring order (m ∷ f) → length steps ≤ max_count → AllByRecursion (λ s. s.line < length (formulas lines)) steps → AllByRecursion (λ s. Coefficient ring (code s.factor)) steps
+      → AllByRecursion (λ s. s.factor.bits < 2 ^ 64) steps → CodedSteps ring steps → summed ring order (formulas lines) [] steps ≡ Ok (m ∷ f) → Grown ring order (formulas lines) (record { formula = m ∷ f; steps = steps })
   grown_line steps m f u short earlier coefficients packed coded e = record {
     lawful = record { formula = u; not_zero = refl; short = short; earlier = earlier; coefficients = coefficients; sum = derived_of ring order F (m ∷ f) steps e };
     packed = λ _. summed_packed ring order F (good ring order F entries) [] steps (m ∷ f) (zero_formula ring order) tt coded e;
@@ -69,7 +69,7 @@ module _ (ring : CoefficientRing) (order : TermOrder) (lines after : List Line) 
     )
     left (m ∷ g) z e =
         let trace : ReducesTo ring order F (at_head ring F) f r.steps (m ∷ g) = subst (ReducesTo ring order F (at_head ring F) f r.steps) z traced.0 in
-        let lawful : All (Lawful ring F) r.steps = trace_all ring order F (at_head ring F) (Lawful ring F) (lawful_at_head ring F) f r.steps (m ∷ g) trace in
+        let lawful : AllByRecursion (Lawful ring F) r.steps = trace_all ring order F (at_head ring F) (Lawful ring F) (lawful_at_head ring F) f r.steps (m ∷ g) trace in
         let coded : CodedSteps ring r.steps = coded_steps ring F r.steps lawful in
         let more : summed ring order F f r.steps ≡ Ok (m ∷ g) = trace_summed ring order F (at_head ring F) f r.steps (m ∷ g) trace in
         let law : Formula ring order (m ∷ g) = (summed_sum ring order F (good ring order F entries) f r.steps (m ∷ g) formula coded more).0 in

@@ -1,11 +1,11 @@
 -- What pedigrees spell has the coefficients of the lines.
-use Rattle.std.proofs.Common.{◌≡◌, ℕ, zero, ◌+◌, ◌<◌, List, [], ◌∷◌, ◌++◌, map, length, get_or, sym, refl, ap, ◌∙◌, subst, ap₂, subst₂, append_assoc, append-nil, arith}
+use Rattle.std.proofs.Common.{◌≡◌, ℕ, ◌+◌, ◌<◌, List, [], ◌∷◌, ◌++◌, map, length, get_or, sym, refl, ap, ◌∙◌, subst, ap₂, subst₂, append_assoc, append-nil, arith}
 use native.Mathlib.Decide.{dec_lt}
-use Rattle.std.specs.List.{AllByRecursion as All}
+use Rattle.std.specs.List.{AllByRecursion}
 use Rattle.std.proofs.lemmas.List.{get_or_append_left, get_or_push, length-append}
 use Rattle.std.proofs.ByRecursion.{All-push, All-weaker}
 use Rattle.ring.specs.CoefficientRing.{CoefficientRing}
-use Rattle.order.specs.Term.{Term, product, unit}
+use Rattle.order.specs.Term.{Term, unit}
 use Rattle.order.specs.TermOrder.{TermOrder}
 use Rattle.term.specs.declared.monomial.Monomial.{Monomial}
 use Rattle.term.specs.declared.monomial.Step.{Step}
@@ -64,7 +64,7 @@ module _ (ring : CoefficientRing) where
 module _ (ring : CoefficientRing) where
   -- all steps name one of n relations
   abbrev Names : ℕ → List PlainStep → Type 0
-  Names n steps = All (λ s. s.line < n) steps
+  Names n steps = AllByRecursion (λ s. s.line < n) steps
 
   names_more : (Q more : List (List Monomial)) (σ : List PlainStep) (t : Term) → Names (length Q) σ → plain_worth ring (Q ++ more) σ t ≡ plain_worth ring Q σ t
   names_more Q more [] t h = refl
@@ -86,7 +86,7 @@ module _ (ring : CoefficientRing) where
   names_multiplied n c u (s ∷ σ) h = (h.0, names_multiplied n c u σ h.1)
 
   -- steps over lines, spelled out
-  worth_through : (Q F : List (List Monomial)) (S : List (List PlainStep)) → Spelt Q F S → (steps : List Step) → All (λ s. s.line < length F) steps → (t : Term) → worth ring F steps t ≡ plain_worth ring Q (through ring S steps) t
+  worth_through : (Q F : List (List Monomial)) (S : List (List PlainStep)) → Spelt Q F S → (steps : List Step) → AllByRecursion (λ s. s.line < length F) steps → (t : Term) → worth ring F steps t ≡ plain_worth ring Q (through ring S steps) t
   worth_through Q F S s [] h t = refl
   worth_through Q F S s (p ∷ steps) h t =
       let c : ℕ = code p.factor in
@@ -97,7 +97,7 @@ module _ (ring : CoefficientRing) where
       (worth_through Q F S s steps h.1 t)
       ∙ sym (worth_plain_append ring Q (multiplied_steps ring c u (get_or S p.line [])) (through ring S steps) t)
 
-  through_names : (Q F : List (List Monomial)) (S : List (List PlainStep)) → Spelt Q F S → (steps : List Step) → All (λ s. s.line < length F) steps → Names (length Q) (through ring S steps)
+  through_names : (Q F : List (List Monomial)) (S : List (List PlainStep)) → Spelt Q F S → (steps : List Step) → AllByRecursion (λ s. s.line < length F) steps → Names (length Q) (through ring S steps)
   through_names Q F S s [] h = tt
   through_names Q F S s (p ∷ steps) h =
       names_append (length Q) (multiplied_steps ring (code p.factor) (term p.factor) (get_or S p.line [])) (through ring S steps) (names_multiplied (length Q) (code p.factor) (term p.factor) (get_or S p.line []) (s.names p.line h.0))

@@ -1,6 +1,6 @@
 -- The theorems about the calls, put together.
-use Rattle.std.proofs.Common.{◌≡◌, ℕ, zero, suc, ◌+◌, ◌<◌, List, [], ◌∷◌, ◌++◌, length, get_or, take, Ok, sym, refl, ap, ◌∙◌, subst, arith}
-use Rattle.std.specs.List.{AllByRecursion as All}
+use Rattle.std.proofs.Common.{◌≡◌, ℕ, zero, suc, ◌<◌, List, [], ◌∷◌, ◌++◌, length, get_or, take, Ok, sym, refl, ap, ◌∙◌, subst, arith}
+use Rattle.std.specs.List.{AllByRecursion}
 use Rattle.std.proofs.lemmas.List.{append_assoc, append-nil}
 use Rattle.std.proofs.lemmas.Bool.{lt-leb}
 use Rattle.ring.specs.CoefficientRing.{CoefficientRing}
@@ -39,8 +39,8 @@ module _ (ring : CoefficientRing) (order : TermOrder) where
       record {
         same_exactly_on_combinations = subst (SameExactlyOnCombinations ring order state) are (same_exactly_on_combinations ring order state k.sound);
         lines_spell_relations = subst (LinesSpellRelations ring order state) are (spell_relations state k.sound);
-        written_sheets_pass = λ p. written_sheets_pass ring order state k.sound (subst (All Packed) (sym are) p);
-        written_sheets_decode = λ p. written_sheets_decode ring order state k.sound (subst (All Packed) (sym are) p);
+        written_sheets_pass = λ p. written_sheets_pass ring order state k.sound (subst (AllByRecursion Packed) (sym are) p);
+        written_sheets_decode = λ p. written_sheets_decode ring order state k.sound (subst (AllByRecursion Packed) (sym are) p);
         result_plus_trail = result_plus_trail ring order state k.sound;
         decisions_hold = subst (DecisionsHold ring order state) are (decisions_hold ring order state k.sound);
       }

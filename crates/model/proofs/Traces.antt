@@ -1,6 +1,6 @@
 -- Reductions as traces of steps: their sums, that more lines keep them, and that a new line takes itself away.
 use Rattle.std.proofs.Common.{◌≡◌, ℕ, zero, suc, ◌+◌, ◌-◌, ◌^◌, ◌<◌, ◌≤◌, List, [], ◌∷◌, ◌++◌, length, get_or, Some, None, Ok, Err, Option, Result, sym, refl, ap, ◌∙◌, subst, ap₂, arith}
-use Rattle.std.specs.List.{AllByRecursion as All}
+use Rattle.std.specs.List.{AllByRecursion}
 use Rattle.std.proofs.lemmas.List.{get_or_append_left}
 use Rattle.refusal.specs.declared.Refusal.{Refusal}
 use Rattle.refusal.specs.declared.Refusal.TheVariants.{AllowanceUsed}
@@ -23,7 +23,7 @@ use Rattle.model.proofs.Searches.{factor_code, fits_at, found, found_more}
 
 module _ (ring : CoefficientRing) (order : TermOrder) where
   abbrev pub Good : List (List Monomial) → Type 0
-  Good F = All (Formula ring order) F
+  Good F = AllByRecursion (Formula ring order) F
 
   -- each line is a formula, and so is the zero that stands for a missing one
   pub good_line : (F : List (List Monomial)) → Good F → (k : ℕ) → Formula ring order (get_or F k [])
@@ -74,7 +74,7 @@ module _ (ring : CoefficientRing) (order : TermOrder) (F : List (List Monomial))
   trace_stops f (s ∷ steps) g t = trace_stops t.0 steps g t.3
 
   -- a property of every step that is chosen holds of every step of a trace
-  pub trace_all : (P : Step → Type 0) → ((f : List Monomial) (s : Step) → choose f ≡ Some s → P s) → (f : List Monomial) (steps : List Step) (g : List Monomial) → ReducesTo ring order F choose f steps g → All P steps
+  pub trace_all : (P : Step → Type 0) → ((f : List Monomial) (s : Step) → choose f ≡ Some s → P s) → (f : List Monomial) (steps : List Step) (g : List Monomial) → ReducesTo ring order F choose f steps g → AllByRecursion P steps
   trace_all P each f [] g t = tt
   trace_all P each f (s ∷ steps) g t = (each f s t.1, trace_all P each t.0 steps g t.3)
 
@@ -136,15 +136,15 @@ module _ (ring : CoefficientRing) (F : List (List Monomial)) where
   lawful_at_greatest [] s h = none_some h
   lawful_at_greatest (m ∷ f) s h = or_either (lowering ring F (code m) (term m)) (at_greatest ring F f) s h (lawful_found (excess ring) (code m) m s) (lawful_at_greatest f s)
 
-  pub coded_steps : (steps : List Step) → All Lawful steps → CodedSteps ring steps
+  pub coded_steps : (steps : List Step) → AllByRecursion Lawful steps → CodedSteps ring steps
   coded_steps [] h = tt
   coded_steps (s ∷ steps) h = (h.0.coded, coded_steps steps h.1)
 
-  pub packed_steps : (steps : List Step) → All Lawful steps → All (λ s. s.factor.bits < 2 ^ 64) steps
+  pub packed_steps : (steps : List Step) → AllByRecursion Lawful steps → AllByRecursion (λ s. s.factor.bits < 2 ^ 64) steps
   packed_steps [] h = tt
   packed_steps (s ∷ steps) h = (h.0.packed, packed_steps steps h.1)
 
-  pub inside_steps : (steps : List Step) → All Lawful steps → All (λ s. s.line < length F) steps
+  pub inside_steps : (steps : List Step) → AllByRecursion Lawful steps → AllByRecursion (λ s. s.line < length F) steps
   inside_steps [] h = tt
   inside_steps (s ∷ steps) h = (h.0.inside, inside_steps steps h.1)
 
@@ -159,11 +159,11 @@ module _ (ring : CoefficientRing) (order : TermOrder) (F more : List (List Monom
   pub stepped_more : (f : List Monomial) (s : Step) → s.line < length F → stepped ring order (F ++ more) f s ≡ stepped ring order F f s
   stepped_more f s i = ap (added ring order f s.factor) (same_line s.line i)
 
-  pub summed_more : (f : List Monomial) (steps : List Step) → All (λ s. s.line < length F) steps → summed ring order (F ++ more) f steps ≡ summed ring order F f steps
+  pub summed_more : (f : List Monomial) (steps : List Step) → AllByRecursion (λ s. s.line < length F) steps → summed ring order (F ++ more) f steps ≡ summed ring order F f steps
   summed_more f [] h = refl
   summed_more f (s ∷ steps) h = ap₂ then (stepped_more f s h.0) (λ i g. summed_more g steps h.1 i)
 
-  pub worth_more : (steps : List Step) (t : Term) → All (λ s. s.line < length F) steps → worth ring (F ++ more) steps t ≡ worth ring F steps t
+  pub worth_more : (steps : List Step) (t : Term) → AllByRecursion (λ s. s.line < length F) steps → worth ring (F ++ more) steps t ≡ worth ring F steps t
   worth_more [] t h = refl
   worth_more (s ∷ steps) t h = ap₂ (code_ring ring).sum (ap (λ l. multiple ring s.factor l t) (same_line s.line h.0)) (worth_more steps t h.1)
 

@@ -1,6 +1,6 @@
 -- Remainders in a workbook: what they leave, and that in a complete one they tell the combinations of the relations.
 use Rattle.std.proofs.Common.{◌≡◌, ℕ, zero, suc, ◌*◌, ◌<◌, ◌≤◌, min, Bool, true, false, cond, eqb, ◌⊎◌, ◌↔◌, List, [], ◌∷◌, ◌++◌, map, length, get_or, take, drop, None, Ok, sym, refl, ap, ◌∙◌, subst, ap₂, inl, inr, arith}
-use Rattle.std.specs.List.{AllByRecursion as All}
+use Rattle.std.specs.List.{AllByRecursion}
 use Rattle.std.proofs.lemmas.List.{length-map, take_at}
 use Rattle.std.proofs.ByRecursion.{All-get_or}
 use Rattle.std.proofs.lemmas.Bool.{cond-false, eqb-true, leb-true}
@@ -103,7 +103,7 @@ module _ (ring : CoefficientRing) where
       by true z e = eqb-true (ring.residue c r) c z
       by false z e = absurd (ring.quotient_none_without_multiple (code_difference ring c (ring.residue c r)) r (ring.sum_below c (ring.negative (ring.residue c r))) k e (ring.residue_differs_by_multiple c r h k))
 
-  module _ (order : TermOrder) (F : List (List Monomial)) (entries : All (Entry ring order) F) where
+  module _ (order : TermOrder) (F : List (List Monomial)) (entries : AllByRecursion (Entry ring order) F) where
     abbrev Own : ℕ → ℕ → Type 0
     Own r c = ring.residue c r ≡ c
 

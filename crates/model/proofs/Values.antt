@@ -2,7 +2,7 @@
 use Rattle.std.proofs.Common.{◌≡◌, ℕ, zero, suc, ◌<◌, true, false, List, [], ◌∷◌, ◌++◌, map, get_or, Ok, sym, refl, ap, ◌∙◌, ap₂, arith}
 use Rattle.std.proofs.ByRecursion.{All-weaker}
 use Rattle.std.proofs.lemmas.Bool.{cond-true, cond-false}
-use Rattle.std.specs.List.{AllByRecursion as All}
+use Rattle.std.specs.List.{AllByRecursion}
 use Rattle.ring.specs.CoefficientRing.{CoefficientRing}
 use Rattle.order.specs.Term.{Term, divides, product}
 use Rattle.order.specs.TermOrder.{TermOrder}
@@ -44,11 +44,11 @@ module _ (ring : CoefficientRing) where
   worth F (s ∷ steps) t = multiple s.factor (get_or F s.line []) t + worth F steps t
 
   abbrev pub Codes : List Monomial → Type 0
-  Codes f = All (λ m. code m < ring.size) f
+  Codes f = AllByRecursion (λ m. code m < ring.size) f
 
   -- codes of steps
   abbrev pub CodedSteps : List Step → Type 0
-  CodedSteps steps = All (λ s. code s.factor < ring.size) steps
+  CodedSteps steps = AllByRecursion (λ s. code s.factor < ring.size) steps
 
   pub co_is : (f : List Monomial) → Codes f → (t : Term) → coefficient ring (polynomial_of f) t ≡ packed_coefficient ring f t
   unfolding same

@@ -1,6 +1,6 @@
 -- The law over all lists of calls, and what the audit passes.
 use Rattle.std.specs.Prelude.{◌≡◌, ℕ, ◌<◌, true, ◌↔◌, List, [], ◌++◌, map, length, take, Some, Ok, ◌≢◌, slice_index_or}
-use Rattle.std.specs.List.{AllByRecursion as All}
+use Rattle.std.specs.List.{AllByRecursion}
 use Rattle.ring.specs.CoefficientRing.{CoefficientRing}
 use Rattle.order.specs.Term.{Term}
 use Rattle.order.specs.TermOrder.{TermOrder}
@@ -72,8 +72,8 @@ module _ (ring : CoefficientRing) (order : TermOrder) where
     pub same_exactly_on_combinations : SameExactlyOnCombinations (run ring order calls).state (run ring order calls).relations
     pub lines_spell_relations : LinesSpellRelations (run ring order calls).state (run ring order calls).relations
     -- a sheet holds numbers of 64 bits, so the relations are to be such
-    pub written_sheets_pass : All Packed (run ring order calls).relations → WrittenSheetsPass (run ring order calls).state
-    pub written_sheets_decode : All Packed (run ring order calls).relations → WrittenSheetsDecode (run ring order calls).state
+    pub written_sheets_pass : AllByRecursion Packed (run ring order calls).relations → WrittenSheetsPass (run ring order calls).state
+    pub written_sheets_decode : AllByRecursion Packed (run ring order calls).relations → WrittenSheetsDecode (run ring order calls).state
     pub result_plus_trail : ResultPlusTrail (run ring order calls).state
     pub decisions_hold : DecisionsHold (run ring order calls).state (run ring order calls).relations
 
@@ -91,14 +91,14 @@ module _ (ring : CoefficientRing) (order : TermOrder) where
 
   -- the audit passes exactly the sheets that keep the rules
   abbrev pub PassesExactlyWhatKeepsTheRules : Type 0
-  PassesExactlyWhatKeepsTheRules = (bytes : List ℕ) → All Byte bytes → (audited ring order bytes ≡ Ok tt) ↔ SheetKept ring order bytes
+  PassesExactlyWhatKeepsTheRules = (bytes : List ℕ) → AllByRecursion Byte bytes → (audited ring order bytes ≡ Ok tt) ↔ SheetKept ring order bytes
 
   -- the law over all lists of calls and over all bytes
   pub record Law : Type 0 where
     -- what holds after each list of calls
     pub every_run : (calls : List Call) → RunLaw calls
     -- whatever its bytes, a sheet passes only if it is strong
-    pub only_strong_sheets_pass : (bytes : List ℕ) → All Byte bytes → audited ring order bytes ≡ Ok tt → StrongSheet bytes
+    pub only_strong_sheets_pass : (bytes : List ℕ) → AllByRecursion Byte bytes → audited ring order bytes ≡ Ok tt → StrongSheet bytes
     -- a workbook for which this is not so is the state of no list of calls
     pub no_other_state : (state : State) (granted : List (List Monomial)) → (SameExactlyOnCombinations state granted × LinesSpellRelations state granted → ⊥)
         → (calls : List Call) → (run ring order calls).state ≡ state → (run ring order calls).relations ≢ granted

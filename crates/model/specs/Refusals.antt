@@ -1,6 +1,6 @@
 -- What is refused, with which refusal and in which order, where each call comes to an end, and the limits as numerals.
 use Rattle.std.specs.Prelude.{◌≡◌, ℕ, ◌+◌, ◌*◌, ◌<◌, ◌≤◌, min, List, [], ◌∷◌, ◌++◌, length, Some, None, Ok, Err, Option, Result, ◌≢◌, slice_index_or}
-use Rattle.std.specs.List.{flat_map, AllByRecursion as All}
+use Rattle.std.specs.List.{flat_map, AllByRecursion}
 use Rattle.refusal.specs.Number.{number}
 use Rattle.refusal.specs.declared.Refusal.{Refusal}
 use Rattle.refusal.specs.declared.Refusal.TheVariants.{RingSize, TooManyMonomials, CoefficientOutOfRange, TermsNotFalling, EmptyFormula, LinesFull, TablesFull, ExponentTooLarge, SumTooLong, AllowanceUsed, MemoryTooShort, NotComplete, OtherKinds, NotASheet, StepOutOfRange, NotTheSum, NotSettled}
@@ -68,11 +68,11 @@ pub record LimitsAsStated : Type 0 where
 module _ (ring : CoefficientRing) where
   -- every code is a coefficient
   abbrev pub Coefficients : List Monomial → Type 0
-  Coefficients f = All (λ m. Coefficient ring (code m)) f
+  Coefficients f = AllByRecursion (λ m. Coefficient ring (code m)) f
 
   -- every step names one of n lines and has a coefficient
   abbrev pub LawfulSteps : (n : ℕ) → List Step → Type 0
-  LawfulSteps n steps = All (λ s. s.line < n) steps × All (λ s. Coefficient ring (code s.factor)) steps
+  LawfulSteps n steps = AllByRecursion (λ s. s.line < n) steps × AllByRecursion (λ s. Coefficient ring (code s.factor)) steps
 
   module _ (order : TermOrder) where
     -- a call checks the whole list for its length, then for coefficients, then for falling terms
@@ -94,7 +94,7 @@ module _ (ring : CoefficientRing) where
 
       -- no exponent of a step's products passes 255
       abbrev pub ExponentsFit : Step → Type 0
-      ExponentsFit s = All (λ m. Divides (product (term s.factor) (term m)) (level 255)) (slice_index_or F s.line [])
+      ExponentsFit s = AllByRecursion (λ m. Divides (product (term s.factor) (term m)) (level 255)) (slice_index_or F s.line [])
 
       -- a step is refused for its exponents, then for a sum of more than 64 monomials, and else is that sum
       pub record StepRefusals (f : List Monomial) (s : Step) : Type 0 where

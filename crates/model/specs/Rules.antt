@@ -1,6 +1,6 @@
 -- The rules of a sheet, which do not say how they are checked.
 use Rattle.std.specs.Prelude.{◌≡◌, ℕ, ◌<◌, ◌≤◌, true, List, [], ◌∷◌, map, length, take, Ok, slice_index_or}
-use Rattle.std.specs.List.{AllByRecursion as All}
+use Rattle.std.specs.List.{AllByRecursion}
 use Rattle.ring.specs.CoefficientRing.{CoefficientRing}
 use Rattle.order.specs.TermOrder.{TermOrder}
 use Rattle.term.specs.declared.monomial.Monomial.{Monomial}
@@ -33,8 +33,8 @@ module _ (ring : CoefficientRing) (order : TermOrder) where
     pub formula : Formula ring order line.formula
     pub not_zero : has_head line.formula ≡ true
     pub short : length line.steps ≤ max_count
-    pub earlier : All (λ s. s.line < length F) line.steps
-    pub coefficients : All (λ s. Coefficient ring (code s.factor)) line.steps
+    pub earlier : AllByRecursion (λ s. s.line < length F) line.steps
+    pub coefficients : AllByRecursion (λ s. Coefficient ring (code s.factor)) line.steps
     pub sum : Derived F line.formula line.steps
 
   -- a line of a sheet that keeps the rules is lawful and fits a sheet

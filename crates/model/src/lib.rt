@@ -1,4 +1,6 @@
 //! What each call of the workbook and of the audit means, and the law over all lists of calls: definitions and theorems, with no computation.
+#![tactic(auto)]
+
 mod answers;
 mod laws;
 

@@ -1,5 +1,5 @@
 -- What the calls of small workbooks answer, worked out by hand.
-use Rattle.std.specs.Prelude.{◌≡◌, true, false, List, [], ◌∷◌, ◌++◌, length, take, drop, replicate, Ok, Err}
+use Rattle.std.specs.Prelude.{◌≡◌, true, false, [], ◌∷◌, ◌++◌, length, take, drop, replicate, Ok, Err}
 use Rattle.refusal.specs.declared.Refusal.TheVariants.{AllowanceUsed, CoefficientOutOfRange, EmptyFormula, ExponentTooLarge, LinesFull, MemoryTooShort, NotASheet, NotComplete, NotSettled, NotTheSum, OtherKinds, StepOutOfRange, SumTooLong, TablesFull, TermsNotFalling, TooManyMonomials}
 use Rattle.order.specs.Term.{unit}
 use Rattle.term.specs.Orders.{lex, reverse}

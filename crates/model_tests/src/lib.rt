@@ -1,4 +1,6 @@
 //! Worked examples of the calls of a workbook and of the audit, and errors that they refute.
+#![tactic(auto)]
+
 ghost use Rattle.model_tests.specs.Errors.{AJobsAreNeeded, CompleteDoesNotLast, DividingIsNotEnough};
 ghost use Rattle.model_tests.specs.Readings.{WorkedAudit, WorkedLimits, WorkedRefusals, WorkedRemainders, WorkedRun};
 

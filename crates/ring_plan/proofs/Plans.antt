@@ -10,9 +10,9 @@ use Rattle.residue.specs.Made.{granted as residue_granted}
 use Rattle.pair.specs.declared.PairRing.{PairRing}
 use Rattle.pair.specs.Paired.{few_enough, paired, paired_if}
 use Rattle.pair.specs.Made.{made}
-use Rattle.either.specs.declared.Either.TheVariants.{Left, Right}
+use Rattle.choice.specs.declared.Either.TheVariants.{Left, Right}
 use Rattle.ring_plan.specs.declared.RingPlan.TheVariants as plan
-use Rattle.ring_plan.specs.Rings.{residue_meaning, pair_meaning, described, granted, pair_possible, possible, ring_size, seen, size_of}
+use Rattle.ring_plan.specs.Rings.{residue_meaning, pair_meaning, described, granted, pair_possible, possible, ring_size, seen}
 
 -- what is granted by a test
 abbrev by_test : {A : Type 0} → Bool → A → Result A Refusal

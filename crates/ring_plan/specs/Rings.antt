@@ -7,9 +7,9 @@ use Rattle.residue.specs.declared.modulus.ResidueRing.{ResidueRing}
 use Rattle.residue.specs.Residues.{residues}
 use Rattle.pair.specs.declared.PairRing.{PairRing}
 use Rattle.pair.specs.Paired.{paired}
-use Rattle.either.specs.declared.Either.{Either}
-use Rattle.either.specs.declared.Either.TheVariants.{Left, Right}
-use Rattle.either.specs.Meaning.{ring_meaning}
+use Rattle.choice.specs.declared.Either.{Either}
+use Rattle.choice.specs.declared.Either.TheVariants.{Left, Right}
+use Rattle.choice.specs.Meaning.{ring_meaning}
 use Rattle.ring_plan.specs.declared.RingPlan.{RingPlan}
 use Rattle.ring_plan.specs.declared.RingPlan.TheVariants as plan
 

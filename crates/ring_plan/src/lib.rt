@@ -1,7 +1,9 @@
 //! The rings that a script can ask for: residues, pairs of residues, and pairs whose left part is such a pair.
+#![tactic(auto)]
+
 mod making;
 
-use either::Either;
+use choice::Either;
 use pair::PairRing;
 use residue::ResidueRing;
 

@@ -1,10 +1,10 @@
 //! Making the ring of a plan.
 ghost use Rattle.std.specs.Prelude.{◌≡◌};
-ghost use Rattle.either.specs.declared.Either.TheVariants.{Left, Right};
+ghost use Rattle.choice.specs.declared.Either.TheVariants.{Left, Right};
 ghost use Rattle.ring_plan.specs.Rings.{described, granted, seen};
 
 use crate::{AnyRing, ResiduePair, ResidueTriple, RingPlan};
-use either::Either;
+use choice::Either;
 use pair::PairRing;
 use refusal::Refusal;
 use residue::ResidueRing;

@@ -1,6 +1,6 @@
 //! The commands of a script, with their words read.
 use crate::Listing;
-use either::Either;
+use choice::Either;
 use ring::Code;
 use ring_plan::RingPlan;
 use term::{Lex, Monomial, Reverse, Weight};

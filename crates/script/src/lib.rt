@@ -1,4 +1,6 @@
 //! Scripts of commands: their lines, the words of a line, numbers, and the command that a line writes.
+#![tactic(auto)]
+
 mod command;
 mod decimal;
 mod fault;

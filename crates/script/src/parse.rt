@@ -2,7 +2,7 @@
 use crate::command::{Addition, AnyOrder, Command, Operation, PlainOrder};
 use crate::fault::Fault;
 use crate::words::Words;
-use either::Either;
+use choice::Either;
 use ring_plan::RingPlan;
 use term::{Lex, Reverse, Weight};
 

@@ -1,9 +1,15 @@
 -- Each check refuses in its turn, and then the sum decides.
-use Rattle.std.proofs.Common.{Ok, Err}
+use Rattle.std.proofs.Common.{[], Ok, Err}
 use Rattle.std.proofs.lemmas.Result.{err_from_is_err_and}
 use Rattle.formula.specs.Held.{held}
-use Rattle.answer.proofs.Checks.{coefficient_refused, sum_decides}
+use Rattle.answer.proofs.Checks.{line_refused, coefficient_refused, sum_decides}
 use Rattle.answer.proofs.formulas.sum.Goals as goal
+
+pub returns-in_err-line : goal.returns-in_err-line
+returns-in_err-line g c =
+    let a = c.args in
+    let p = err_from_is_err_and c.from_residual-in_err-line.result c.from_residual-in_err-line.ensures.1 in
+    rw (p.1, p.2) (line_refused (g.R.Ring.meaning a.ring.now) (g.O.Order.meaning a.order.now) a.formula.now a.factor a.line.now (held c.in_ok-sum.sum) [] c.in_err-line.field-0.0 c.in_ok-sum.ensures c.in_err-line.ensures)
 
 pub returns-in_err-check : goal.returns-in_err-check
 returns-in_err-check g c =

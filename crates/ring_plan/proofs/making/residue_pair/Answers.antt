@@ -1,7 +1,7 @@
 -- The pair is made exactly where its plan is granted.
 use Rattle.std.proofs.Common.{ap, ◌∙◌}
 use Rattle.std.proofs.lemmas.Result.{err_from_is_err_and}
-use Rattle.either.specs.declared.Either.TheVariants.{Left, Right}
+use Rattle.choice.specs.declared.Either.TheVariants.{Left, Right}
 use Rattle.ring_plan.specs.Rings.{described, seen}
 use Rattle.ring_plan.proofs.Plans.{refused_left, refused_right, made_pair}
 use Rattle.ring_plan.proofs.making.residue_pair.Goals as goal

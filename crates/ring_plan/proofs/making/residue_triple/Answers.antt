@@ -1,7 +1,7 @@
 -- The pair of a pair is made exactly where its plan is granted.
 use Rattle.std.proofs.Common.{ap, ◌∙◌}
 use Rattle.std.proofs.lemmas.Result.{err_from_is_err_and}
-use Rattle.either.specs.declared.Either.TheVariants.{Right}
+use Rattle.choice.specs.declared.Either.TheVariants.{Right}
 use Rattle.ring_plan.specs.Rings.{described, seen}
 use Rattle.ring_plan.proofs.Plans.{refused_pair, refused_last, made_triple}
 use Rattle.ring_plan.proofs.making.residue_triple.Goals as goal

@@ -1,5 +1,5 @@
 -- What is listed, with the monomials that are left, is the list; each word makes what is left shorter.
-use Rattle.std.proofs.Common.{◌≡◌, [], length}
+use Rattle.std.proofs.Common.{◌≡◌, length}
 use Rattle.script.specs.Formulas.{first_listed, monomials_in}
 use Rattle.script.specs.Listed.{listed}
 use Rattle.script.proofs.Listings.{listed_with}

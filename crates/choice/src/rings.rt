@@ -1,5 +1,5 @@
 //! One of two rings as a ring: each answer is that of the ring which the value holds.
-ghost use Rattle.either.specs.Meaning.{ring_meaning};
+ghost use Rattle.choice.specs.Meaning.{ring_meaning};
 
 use crate::Either;
 use ring::{Bezout, Code, Ring};

@@ -1,4 +1,6 @@
 //! One of two rings as a ring, and one of two orders as an order: which of the two it is, a value tells.
+#![tactic(auto)]
+
 mod orders;
 mod rings;
 

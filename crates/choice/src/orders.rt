@@ -1,5 +1,5 @@
 //! One of two orders as an order: each answer is that of the order which the value holds.
-ghost use Rattle.either.specs.Meaning.{order_meaning};
+ghost use Rattle.choice.specs.Meaning.{order_meaning};
 
 use crate::Either;
 use std::cmp::Ordering;

@@ -1,8 +1,8 @@
 -- What one of two rings means, and one of two orders: what the one means that the value holds.
 use Rattle.ring.specs.CoefficientRing.{CoefficientRing}
 use Rattle.order.specs.TermOrder.{TermOrder}
-use Rattle.either.specs.declared.Either.{Either}
-use Rattle.either.specs.declared.Either.TheVariants.{Left, Right}
+use Rattle.choice.specs.declared.Either.{Either}
+use Rattle.choice.specs.declared.Either.TheVariants.{Left, Right}
 
 abbrev pub ring_meaning : {L R : Type 0} → (L → CoefficientRing) → (R → CoefficientRing) → Either L R → CoefficientRing
 ring_meaning left right (Left ring) = left ring
