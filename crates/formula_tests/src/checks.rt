@@ -100,7 +100,7 @@ pub(crate) fn check_agrees<R: Ring, O: Order>(
     assert_eq!(rt;
         (answer, is_held),
         (verdict(model, list), list.len() <= 64),
-        "check"
+        "check, {model:?}"
     );
     Ok(answer)
 }
@@ -134,6 +134,10 @@ pub(crate) fn checks_agree<R: Ring, O: Order>(
         let answer = check_agrees(rt, ring, order, model, list.as_slice(), heap)?;
         seen = with_answer(seen, answer);
     }
-    assert_eq!(rt; seen, 0b1_1101, "granted, 2, 3 and 4 are to come");
+    assert_eq!(rt;
+        seen,
+        0b1_1101,
+        "granted, 2, 3 and 4 are to come, {model:?}"
+    );
     Ok(())
 }

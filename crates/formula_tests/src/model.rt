@@ -5,7 +5,7 @@ use std::alloc::{AllocError, Global};
 use term::Monomial;
 
 /// A ring as two counters side by side; the left one of a residue ring has one place only.
-#[derive(Clone, Copy)]
+#[derive(Clone, Copy, Debug)]
 pub(crate) struct Counters {
     pub(crate) left: u32,
     pub(crate) right: u32,
@@ -62,7 +62,7 @@ impl Counters {
 }
 
 /// A ring and an order in plain words.
-#[derive(Clone, Copy)]
+#[derive(Clone, Copy, Debug)]
 pub(crate) struct Model {
     pub(crate) counters: Counters,
     pub(crate) rule: Rule,

@@ -127,14 +127,14 @@ fn by_last_register(s: Term, t: Term) -> Ordering {
 }
 
 /// The two orders that weights stand over.
-#[derive(Clone, Copy)]
+#[derive(Clone, Copy, Debug)]
 pub(crate) enum Below {
     Lex,
     Reverse,
 }
 
 /// An order in plain words: weights, all of them 0 where there are none, and what decides a tie.
-#[derive(Clone, Copy)]
+#[derive(Clone, Copy, Debug)]
 pub(crate) struct Rule {
     pub(crate) weights: Term,
     pub(crate) below: Below,

@@ -131,13 +131,13 @@ pub(crate) fn sum_agrees<R: Ring, O: Order>(
     let line = held(parts.line, heap)?;
     let factor = parts.factor.packed().unwrap_or(Monomial { bits: 0 });
     let answer = number(add_step(ring, order, &mut work, factor, &line));
-    assert_eq!(rt; answer, parts.verdict(model.counters), "answer");
+    assert_eq!(rt; answer, parts.verdict(model.counters), "answer, {model:?}");
     let right = if answer == 0 {
         is_sum(model, parts, work.monomials())
     } else {
         work.monomials() == before.monomials()
     };
-    assert!(rt; right, "what is held after {answer}");
+    assert!(rt; right, "what is held after {answer}, {model:?}");
     Ok(answer)
 }
 
@@ -188,6 +188,10 @@ pub(crate) fn sums_agree<R: Ring, O: Order>(
         };
         seen = with_answer(seen, sum_agrees(rt, ring, order, model, &parts, heap)?);
     }
-    assert_eq!(rt; seen, 0b11_0000_0001, "granted, 8 and 9 are to come");
+    assert_eq!(rt;
+        seen,
+        0b11_0000_0001,
+        "granted, 8 and 9 are to come, {model:?}"
+    );
     Ok(())
 }

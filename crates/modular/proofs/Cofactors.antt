@@ -11,8 +11,8 @@ use Rattle.modular.proofs.Divisors.{divisor_positive, divisor_left, divisor_righ
 use Rattle.modular.proofs.Congruences.{Alike, alike_sum, alike_cancel, alike_by_divisor, alike_zero, zero_alike, filled}
 use Rattle.modular.proofs.Multipliers.{multiplier_found, multiplier_solves}
 
-isSome_is : (o : Option ℕ) (x : ℕ) → o ≡ Some x → is_some o ≡ true
-isSome_is o x e = ap is_some e
+is_some_is : (o : Option ℕ) (x : ℕ) → o ≡ Some x → is_some o ≡ true
+is_some_is o x e = ap is_some e
 
 module _ (n a b : ℕ) (positive : 0 < n) where
   abbrev d : ℕ

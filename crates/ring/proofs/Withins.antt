@@ -1,4 +1,4 @@
--- What `within` and `both-within` answer, inside and outside.
+-- What `within` and `both_within` answer, inside and outside.
 use Rattle.std.proofs.Common.{◌≡◌, ℕ, ◌<◌, ◌≤◌, ltb, ◌∙◌, ⊎_elim}
 use Rattle.std.proofs.lemmas.Bool.{cases_lt, cond-true, cond-false, lt-ltb, le-ltb}
 use Rattle.ring.specs.Within.{within, both_within}
