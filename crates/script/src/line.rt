@@ -1,5 +1,5 @@
 //! The lines of the input, read in chunks.
-ghost use Rattle.std.specs.Prelude.{◌≡◌, ◌≤◌, vec_len, MatchResult};
+ghost use Rattle.std.specs.Prelude.{◌≡◌, ◌≤◌, [], false, vec_len, MatchResult};
 ghost use Rattle.script.specs.Faults.{NoText};
 
 use crate::fault::Fault;
@@ -33,8 +33,11 @@ enum Part {
 }
 
 impl Line {
-    /// The empty line.
-    pub fn new(heap: Global) -> Line {
+    /// The empty line, which is not too long.
+    pub fn new(heap: Global) -> Line
+        ensures bytes { result.bytes.items ≡ [] }
+        ensures is_short { result.is_too_long ≡ false }
+    {
         Line {
             bytes: Vec::new(heap),
             is_too_long: false,
@@ -42,7 +45,7 @@ impl Line {
     }
 
     /// Takes the input's next line in the place of this one, and says whether there was one.
-    pub fn read<R: BufRead>(&mut self, input: &mut R) -> io::Result<bool> {
+    pub(crate) fn read<R: BufRead>(&mut self, input: &mut R) -> io::Result<bool> {
         self.bytes.clear();
         self.is_too_long = false;
         for _ in 0..u64::MAX {

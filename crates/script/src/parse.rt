@@ -10,7 +10,7 @@ const COMMENT: u8 = b'#';
 
 impl Command {
     /// The command of a line; none for an empty line and for a comment.
-    pub fn parse(line: &str) -> Result<Option<Command>, Fault> {
+    pub(crate) fn parse(line: &str) -> Result<Option<Command>, Fault> {
         let bytes = line.as_bytes();
         if let [COMMENT, ..] = bytes {
             return Ok(None);
