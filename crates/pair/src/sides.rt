@@ -44,7 +44,8 @@ impl<L: Ring, R: Ring> PairRing<L, R> {
 
     /// The code of the pair of x and y.
     pub(crate) fn joined(&self, x: Code, y: Code) -> Code
-        requires { (x < (L.Ring.meaning self.now.left).size) × (y < (R.Ring.meaning self.now.right).size) }
+        requires left_code { x < (L.Ring.meaning self.now.left).size }
+        requires right_code { y < (R.Ring.meaning self.now.right).size }
         ensures { result ≡ joined_of (L.Ring.meaning self.now.left) (R.Ring.meaning self.now.right) x y }
     {
         (x as u32 * self.right.size() + y as u32) as Code
