@@ -8,6 +8,7 @@ use modular::{common_divisor, multiplier};
 use ring::{Bezout, Code, Ring};
 
 /// The gcd of the codes a and b modulo n with its least cofactors: u solves u·a = g modulo the divisor of b and n, and v solves what is then missing.
+#[tactic(auto, using(modular::proofs::Residues::gcd_worked_out))]
 fn least_cofactors(n: u32, a: u32, b: u32) -> Bezout
     requires at_least { 2 ≤ n }
     requires at_most { n ≤ 65536 }
