@@ -32,12 +32,8 @@ pub(crate) fn divisor_with_factor(b: u32, n: u32) -> Option<Cofactor>
     let mut x = 0;
     let mut y = 1;
     while s > 0 {
-        let z = less_multiple(n, x, r / s, y);
-        let rest = r % s;
-        r = s;
-        s = rest;
-        x = y;
-        y = z;
+        (x, y) = (y, less_multiple(n, x, r / s, y));
+        (r, s) = (s, r % s);
     }
     Some(Cofactor {
         divisor: r,

@@ -7,7 +7,7 @@ pub loop-s-init : goal.loop-s-init
 loop-s-init c = turn_start c.args.b c.args.n (omega arith)
 
 pub loop-s-preserved : goal.loop-s-preserved
-loop-s-preserved c = rw c.less_multiple-z.ensures (turn_more _ _ _ _ _ _ (omega arith) c.loop-s-test.true c.loop-s.invariant)
+loop-s-preserved c = rw c.less_multiple.ensures (turn_more _ _ _ _ _ _ (omega arith) c.loop-s-test.true c.loop-s.invariant)
 
 pub returns : goal.returns
 returns c =
