@@ -8,6 +8,7 @@ use ring::{Bezout, Code, Ring};
 const PAIR_KIND: u8 = 2;
 
 /// The pair as a ring.
+// Each method calls both sides itself: the contract of a helper that takes the operation would have to say what the closure answers on each.
 impl<L: Ring, R: Ring> Ring for PairRing<L, R> {
     const KIND: u8 = PAIR_KIND;
 

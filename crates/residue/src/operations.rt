@@ -28,7 +28,7 @@ fn least_cofactors(n: u32, a: u32, b: u32) -> Bezout
     }
 }
 
-/// The ring's answers. Each method tests its numbers itself: a helper that takes the operation would have to say again what the operation asks.
+// Each method tests its numbers itself: a helper that takes the operation would have to say again what the operation asks.
 impl Ring for ResidueRing {
     const KIND: u8 = 1;
 
