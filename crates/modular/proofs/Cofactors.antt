@@ -11,9 +11,6 @@ use Rattle.modular.proofs.Divisors.{divisor_positive, divisor_left, divisor_righ
 use Rattle.modular.proofs.Congruences.{Alike, alike_sum, alike_cancel, alike_by_divisor, alike_zero, zero_alike, filled}
 use Rattle.modular.proofs.Multipliers.{multiplier_found, multiplier_solves}
 
-is_some_is : (o : Option ℕ) (x : ℕ) → o ≡ Some x → is_some o ≡ true
-is_some_is o x e = ap is_some e
-
 module _ (n a b : ℕ) (positive : 0 < n) where
   abbrev d : ℕ
   d = common_divisor b n
@@ -64,7 +61,7 @@ module _ (n a b : ℕ) (positive : 0 < n) where
           ap (λ z. z % d) (omega arith) ∙ sym (alike_sum d (u * a) (u * a) (v * b) 0 refl gone) ∙ low
 
       go : (o : Option ℕ) → least (combines n a b u) n ≡ o → is_some o ≡ true → Alike d (u * a) g
-      go None e t = absurd (let z : ◌≡◌ {A = ℕ} 0 1 = cc in omega arith)
+      go None e t = cc
       go (Some v) e t = solved v (eqb-true _ _ (least_some (combines n a b u) n v e).1)
 
   -- the least u solves u·a = g modulo the divisor of b and n

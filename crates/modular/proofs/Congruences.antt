@@ -1,23 +1,19 @@
 -- Numbers that are alike modulo n.
-use Rattle.std.proofs.Common.{◌≡◌, ℕ, ◌+◌, ◌-◌, ◌*◌, ◌/◌, ◌%◌, ◌<◌, sym, refl, ap, ◌∙◌, ap₂, mod-lt, mul_comm, arith}
+use Rattle.std.proofs.Common.{◌≡◌, ℕ, ◌+◌, ◌-◌, ◌*◌, ◌/◌, ◌%◌, ◌<◌, sym, refl, ap, ◌∙◌, ap₂, mod-lt, arith}
 use Prim.Native.Nat.{◌∣◌}
+use Rattle.std.proofs.Math.Nat.{add-mod}
+use Rattle.std.proofs.lemmas.Nat.{mul-mod}
 use native.Mathlib.Nat.{mod-add-mod, add-mod-mod, add-mod_right, div-add-mod, mul-add-mod_self_left, mod-mod_of_dvd, mul-mod_right, dvd_of_mod-eq-zero, mod-eq-zero_of_dvd}
 
 -- a and b are alike modulo n
 abbrev pub Alike : (n a b : ℕ) → Type 0
 Alike n a b = a % n ≡ b % n
 
-pub mul_mod_left : (n a b : ℕ) → (a % n * b) % n ≡ (a * b) % n
-mul_mod_left n a b = sym (mul-add-mod_self_left n (a / n * b) (a % n * b)) ∙ ap (λ x. x % n) (omega (arith, ap (λ x. x * b) (div-add-mod a n)))
-
-pub mul_mod_both : (n a b : ℕ) → (a * (b % n)) % n ≡ (a * b) % n
-mul_mod_both n a b = ap (λ x. x % n) (mul_comm a (b % n)) ∙ mul_mod_left n b a ∙ ap (λ x. x % n) (mul_comm b a)
-
 pub alike_sum : (n a b c d : ℕ) → Alike n a b → Alike n c d → Alike n (a + c) (b + d)
-alike_sum n a b c d h k = sym (mod-add-mod a n c) ∙ sym (add-mod-mod (a % n) c n) ∙ ap₂ (λ x y. (x + y) % n) h k ∙ add-mod-mod (b % n) d n ∙ mod-add-mod b n d
+alike_sum n a b c d h k = add-mod a c n ∙ ap₂ (λ x y. (x + y) % n) h k ∙ sym (add-mod b d n)
 
 pub alike_product : (n a b c d : ℕ) → Alike n a b → Alike n c d → Alike n (a * c) (b * d)
-alike_product n a b c d h k = sym (mul_mod_left n a c) ∙ sym (mul_mod_both n (a % n) c) ∙ ap₂ (λ x y. (x * y) % n) h k ∙ mul_mod_both n (b % n) d ∙ mul_mod_left n b d
+alike_product n a b c d h k = mul-mod a c n ∙ ap₂ (λ x y. (x * y) % n) h k ∙ sym (mul-mod b d n)
 
 pub alike_times : (n a b c : ℕ) → Alike n a b → Alike n (c * a) (c * b)
 alike_times n a b c h = alike_product n c c a b refl h

@@ -5,9 +5,9 @@ use native.Mathlib.Nat.{div-add-mod, mul-div_cancel', le_of_dvd, dvd-mul_left, d
 use Rattle.std.proofs.lemmas.Bool.{cond-false, eqb-true, eqb-false, eq-eqb, ne_eqb}
 use Rattle.modular.specs.Divisor.{common_divisor}
 use Rattle.modular.specs.Modular.{multiplier}
-use Rattle.modular.specs.Solved.{solved}
+use Rattle.modular.specs.Solved.{solved, Solves}
 use Rattle.modular.proofs.Leasts.{least_is, least_some, least_none}
-use Rattle.modular.proofs.Divisors.{divisor_positive, divisor_left, divisor_right, divisor_at_most, divisor_by_none}
+use Rattle.modular.proofs.Divisors.{divisor_positive, divisor_left, divisor_right, divisor_at_most}
 use Rattle.modular.proofs.Congruences.{Alike, alike_sum, alike_times, alike_cancel, divides_alike, zero_alike}
 use Rattle.modular.proofs.Turns.{Factor, factor_exists}
 
@@ -106,14 +106,6 @@ multiplier_missing b n c e y l h = least_none (λ x. eqb (x * b % n) (c % n)) n 
 pub multiplier_by_none : (b n c : ℕ) → n ≡ 0 → multiplier n b c ≡ None
 multiplier_by_none b n c e = least_is (λ x. eqb (x * b % n) (c % n)) n None (λ y l t. omega arith)
 
--- what Euclid's algorithm comes to, for its last remainder e and its factor w
-pub record Solves (b n e w : ℕ) : Type 0 where
-  pub divisor : e ≡ common_divisor b n
-  pub at_most : e ≤ n
-  pub positive : 0 < n → 0 < e
-  pub period_positive : 0 < e → 0 < n / e
-  pub solves : (c : ℕ) → multiplier n b c ≡ solved n c e w
-
 -- where e divides c, and where it does not
 solves_by : (b n c w : ℕ) → 0 < n → Factor b n w → (t : Bool) → eqb (c % common_divisor b n) 0 ≡ t
     → multiplier n b c ≡ cond t (Some (w * (c / common_divisor b n) % (n / common_divisor b n))) None
@@ -128,15 +120,6 @@ solves_divisor b n e w p is f =
       divisor = is;
       at_most = omega arith;
       positive = omega arith;
-      period_positive = λ _. rw is (period_positive b n p);
+      period_positive = rw is (period_positive b n p);
       solves = λ c. solves_by b n c w p f _ refl ∙ sym (cond-false (eqb (common_divisor b n) 0) _ _ (ne_eqb _ _ (omega arith))) ∙ ap (λ d. solved n c d w) (sym is);
     }
-
-pub solves_none : (b n : ℕ) → n ≡ 0 → Solves b n 0 0
-solves_none b n e = record {
-  divisor = sym (divisor_by_none b n e);
-  at_most = omega arith;
-  positive = omega arith;
-  period_positive = λ h. absurd (omega arith);
-  solves = λ c. multiplier_by_none b n c e;
-}

@@ -1,15 +1,14 @@
 -- The quotient modulo n: a code whose product with the divisor is the number divided, none exactly where there is no such code.
 use Rattle.std.proofs.Common.{◌≡◌, ℕ, ◌*◌, ◌%◌, ◌<◌, ◌≤◌, cond, eqb, Some, None, Option, sym, refl, ap, ◌∙◌, subst, arith}
 use Rattle.std.proofs.lemmas.Bool.{cond_both, cond-true, eqb-true, eq-eqb}
+use Rattle.std.proofs.lemmas.Nat.{mul-mod_first}
+use Rattle.std.proofs.lemmas.Option.{none-some}
 use Rattle.ring.specs.CoefficientRing.{Multiple}
 use Rattle.ring.proofs.Withins.{both_within_inside, both_within_outside_left, both_within_outside_right, both_within_either}
 use Rattle.modular.specs.Modular.{multiplier, modular_product, modular_quotient}
-use Rattle.modular.proofs.Congruences.{Alike, mul_mod_left}
+use Rattle.modular.proofs.Congruences.{Alike}
 use Rattle.modular.proofs.Multipliers.{multiplier_solves, multiplier_missing}
 use Rattle.modular.proofs.Sums.{rest_below, same_code, product_below, product_alike, multiple_alike}
-
-none_is_not_some : (q : ℕ) → ◌≡◌ {A = Option ℕ} None (Some q) → ⊥
-none_is_not_some q e = let z : ◌≡◌ {A = ℕ} 0 1 = cc in omega arith
 
 module _ (n : ℕ) (two : 2 ≤ n) where
   -- what a quotient of a by b says
@@ -18,7 +17,7 @@ module _ (n : ℕ) (two : 2 ≤ n) where
   Says a b (Some q) = (q < n) × Alike n (q * b) a
 
   multiplier_says : (a b : ℕ) (o : Option ℕ) → multiplier n b a ≡ o → Says a b o
-  multiplier_says a b None e = λ x h. multiplier_missing b n a e (x % n) (rest_below n two x) (mul_mod_left n x b ∙ h)
+  multiplier_says a b None e = λ x h. multiplier_missing b n a e (x % n) (rest_below n two x) (mul-mod_first x b n ∙ h)
   multiplier_says a b (Some q) e = let s = multiplier_solves b n a q e in (s.0, s.1)
 
   -- the quotient of codes
@@ -38,7 +37,7 @@ module _ (n : ℕ) (two : 2 ≤ n) where
   quotient_below a b =
       both_within_either (λ o. (q : ℕ) → o ≡ Some q → q < n) n a b (inner a b) None
       (λ _ _ q e. (subst (Says a b) e (inner_says a b)).0)
-      (λ q e. absurd (none_is_not_some q e))
+      (λ q e. absurd (none-some q e))
 
   pub quotient_outside_left : (a b : ℕ) → n ≤ a → modular_quotient n a b ≡ None
   quotient_outside_left a b h = both_within_outside_left n a b (inner a b) None h

@@ -1,8 +1,6 @@
 //! Euclid's algorithm, with the factor by which a number gives its greatest common divisor with n, modulo n.
-ghost use Rattle.std.specs.Prelude.{◌≡◌, ℕ, ◌+◌, ◌-◌, ◌*◌, ◌/◌, ◌%◌, ◌<◌, ◌≤◌};
-ghost use Rattle.modular.specs.Divisor.{common_divisor};
-ghost use Rattle.modular.specs.Modular.{multiplier};
-ghost use Rattle.modular.specs.Solved.{solved};
+ghost use Rattle.std.specs.Prelude.{◌≡◌, ◌+◌, ◌-◌, ◌*◌, ◌%◌, ◌<◌, MatchOption};
+ghost use Rattle.modular.specs.Solved.{Solves};
 
 /// The greatest common divisor of two numbers b and n, and a factor whose product with b is that divisor, modulo n.
 #[derive(Clone, Copy)]
@@ -22,34 +20,23 @@ fn less_multiple(n: u32, x: u32, q: u32, y: u32) -> u32
 }
 
 /// The greatest common divisor of b and n with its factor, by at most about twice as many divisions as n has binary digits.
-/// Both are 0 where n is 0.
-pub(crate) fn divisor_with_factor(b: u32, n: u32) -> Cofactor
-    ensures divisor { result.divisor ≡ common_divisor b n }
-    ensures at_most { result.divisor ≤ n }
-    ensures positive { 0 < n → 0 < result.divisor }
-    ensures period_positive { 0 < result.divisor → 0 < n / result.divisor }
-    ensures solves { (c : ℕ) → multiplier n b c ≡ solved n c result.divisor result.factor }
+/// None where n is 0.
+pub(crate) fn divisor_with_factor(b: u32, n: u32) -> Option<Cofactor>
+    ensures { MatchOption result (n ≡ 0) (λ euclid. Solves b n euclid.divisor euclid.factor) }
 {
     if n == 0 {
-        return Cofactor {
-            divisor: 0,
-            factor: 0,
-        };
+        return None;
     }
     let mut r = n;
     let mut s = b % n;
     let mut x = 0;
     let mut y = 1;
     while s > 0 {
-        let z = less_multiple(n, x, r / s, y);
-        let rest = r % s;
-        r = s;
-        s = rest;
-        x = y;
-        y = z;
+        (x, y) = (y, less_multiple(n, x, r / s, y));
+        (r, s) = (s, r % s);
     }
-    Cofactor {
+    Some(Cofactor {
         divisor: r,
         factor: x,
-    }
+    })
 }

@@ -1,17 +1,13 @@
 -- The ring that two rings make as a pair.
-use Rattle.std.specs.Prelude.{◌≡◌, ℕ, ◌≤◌, Bool, true, false, nat_le, refl}
+use Rattle.std.specs.Prelude.{◌≡◌, ◌≤◌, Bool, true, false, nat_le, refl}
 use Rattle.std.proofs.Common.{lit≤}
 use Rattle.std.proofs.lemmas.Bool.{leb-true}
-use Rattle.ring.specs.CoefficientRing.{CoefficientRing}
+use Rattle.ring.specs.CoefficientRing.{CoefficientRing, largest_size}
 use Rattle.ring.specs.Pair.{pair_kind, pair_size, pair_one, pair_sum, pair_negative, pair_product, pair_quotient, pair_gcd, pair_annihilator, pair_residue}
 use Rattle.ring.proofs.PairCodes.{pair_size_at_least}
 use Rattle.ring.proofs.PairMultiples.{pair_quotient_below}
 use Rattle.ring.proofs.PairAnswers as answers
 use Rattle.ring.proofs.PairLaws as laws
-
--- the most codes that a ring has
-abbrev pub largest_size : ℕ
-largest_size = 65536
 
 -- whether there are few enough pairs for a ring
 abbrev pub few_enough : CoefficientRing → CoefficientRing → Bool

@@ -3,7 +3,7 @@ use Rattle.std.specs.Prelude.{ℕ, Some, None, Option}
 use Rattle.ring.specs.CoefficientRing.{CoefficientRing}
 use Rattle.ring.specs.Within.{within, both_within}
 use Rattle.ring.specs.Pair.{pair_size, left, right}
-use Rattle.pair.specs.declared.Sides.{Sides}
+use Rattle.pair.specs.declared.sides.Sides.{Sides}
 
 module _ (L R : CoefficientRing) where
   -- the two sides of a number

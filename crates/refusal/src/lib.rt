@@ -1,46 +1,48 @@
 //! Why a call is refused: one enum for the whole library, and the number by which each case is known outside.
 #![tactic(auto)]
 
-ghost use Rattle.std.specs.Prelude.{◌≡◌};
+ghost use Rattle.std.specs.Prelude.{◌≡◌, Some, decimal};
 ghost use Rattle.refusal.specs.Number.{number};
+
+use std::fmt;
 
 /// Why a call was refused. A refused call leaves everything as it was.
 #[derive(Clone, Copy, PartialEq, Eq, Debug)]
 pub enum Refusal {
     /// The ring would not have 2 to 65,536 codes.
-    RingSize,
+    RingSize = 1,
     /// A formula has more than 64 monomials.
-    TooManyMonomials,
+    TooManyMonomials = 2,
     /// A coefficient is 0 or not below the size of the ring.
-    CoefficientOutOfRange,
+    CoefficientOutOfRange = 3,
     /// The terms of a formula do not fall strictly.
-    TermsNotFalling,
+    TermsNotFalling = 4,
     /// A relation is the empty formula.
-    EmptyFormula,
+    EmptyFormula = 5,
     /// The workbook holds 64 lines.
-    LinesFull,
+    LinesFull = 6,
     /// The workbook's lines would have more than 2,048 monomials or more than 2,048 steps altogether.
-    TablesFull,
+    TablesFull = 7,
     /// An exponent would pass 255.
-    ExponentTooLarge,
+    ExponentTooLarge = 8,
     /// A sum would have more than 64 monomials.
-    SumTooLong,
+    SumTooLong = 9,
     /// The steps allowed are used up, and another would be needed.
-    AllowanceUsed,
+    AllowanceUsed = 10,
     /// The memory lent is too short for what would be written.
-    MemoryTooShort,
+    MemoryTooShort = 11,
     /// The workbook is not complete.
-    NotComplete,
+    NotComplete = 12,
     /// The sheet is of another kind of ring or order.
-    OtherKinds,
+    OtherKinds = 13,
     /// The bytes are no sheet: they end early or go on, a count is out of range, or a line is no formula.
-    NotASheet,
+    NotASheet = 14,
     /// A step of a sheet names no earlier line, or its coefficient is 0 or not below the size of the ring.
-    StepOutOfRange,
+    StepOutOfRange = 15,
     /// A line of a sheet is not the sum of its steps.
-    NotTheSum,
+    NotTheSum = 16,
     /// A job over the lines of a sheet is not settled.
-    NotSettled,
+    NotSettled = 17,
 }
 
 impl Refusal {
@@ -48,24 +50,24 @@ impl Refusal {
     pub fn number(self) -> u8
         ensures { result ≡ number self }
     {
-        match self {
-            Refusal::RingSize => 1,
-            Refusal::TooManyMonomials => 2,
-            Refusal::CoefficientOutOfRange => 3,
-            Refusal::TermsNotFalling => 4,
-            Refusal::EmptyFormula => 5,
-            Refusal::LinesFull => 6,
-            Refusal::TablesFull => 7,
-            Refusal::ExponentTooLarge => 8,
-            Refusal::SumTooLong => 9,
-            Refusal::AllowanceUsed => 10,
-            Refusal::MemoryTooShort => 11,
-            Refusal::NotComplete => 12,
-            Refusal::OtherKinds => 13,
-            Refusal::NotASheet => 14,
-            Refusal::StepOutOfRange => 15,
-            Refusal::NotTheSum => 16,
-            Refusal::NotSettled => 17,
-        }
+        self as u8
+    }
+}
+
+/// The refusal's number.
+impl From<Refusal> for u8 {
+    ghost from_gives = { λ refusal byte. byte ≡ number refusal };
+
+    fn from(refusal: Refusal) -> u8 {
+        refusal.number()
+    }
+}
+
+/// A refusal prints as its number.
+impl fmt::Display for Refusal {
+    ghost output = { λ refusal. Some (decimal (number refusal)) };
+
+    fn fmt<W: fmt::Write>(&self, f: &mut fmt::Formatter<W>) -> fmt::Result {
+        write!(f, "{}", self.number())
     }
 }

@@ -1,13 +1,13 @@
 -- The integers modulo n as a coefficient ring: arithmetic modulo n, which keeps every law.
 use Rattle.std.specs.Prelude.{ℕ, ◌≤◌, refl}
-use Rattle.ring.specs.CoefficientRing.{CoefficientRing}
+use Rattle.ring.specs.CoefficientRing.{CoefficientRing, smallest_size, largest_size}
 use Rattle.modular.specs.Modular.{residue_kind, modular_sum, modular_negative, modular_product, modular_quotient, modular_gcd, modular_annihilator, modular_residue}
 use Rattle.modular.proofs.Sums as sums
 use Rattle.modular.proofs.Quotients as quotients
 use Rattle.modular.proofs.Residues as divisors
 use Rattle.std.proofs.lemmas.Bool.{leb-true}
 
-abbrev pub residues : (n : ℕ) → 2 ≤ n → n ≤ 65536 → CoefficientRing
+abbrev pub residues : (n : ℕ) → smallest_size ≤ n → n ≤ largest_size → CoefficientRing
 residues n two most = record {
   size = n;
   kind = residue_kind;

@@ -5,6 +5,7 @@ ghost use Rattle.residue.specs.Clock.{clock};
 use crate::modulus::ResidueRing;
 
 /// The integers modulo 12.
+#[tactic(auto, unfolding(modular::specs::Least::least, modular::specs::Least::greatest, modular::specs::Divisor::common_divisor))]
 pub fn clock_hours() -> ResidueRing
     ensures modulus { result.n ≡ 12 }
     ensures gcd_of_4_and_6 { clock.gcd 4 6 ≡ record { g = 2; u = 2; v = 1 } }

@@ -1,5 +1,6 @@
 //! The residue ring as a value: its modulus.
 ghost use Rattle.std.specs.Prelude.{◌≤◌};
+ghost use Rattle.ring.specs.CoefficientRing.{smallest_size, largest_size};
 
 pub mod making;
 
@@ -7,5 +8,5 @@ pub mod making;
 #[derive(Clone, Copy)]
 pub struct ResidueRing {
     n: u32,
-    ghost lawful: { (2 ≤ n) × (n ≤ 65536) },
+    ghost lawful: { (smallest_size ≤ n) × (n ≤ largest_size) },
 }

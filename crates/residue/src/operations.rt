@@ -1,25 +1,14 @@
 //! The residue ring's answers, each by at most a few times as many divisions as n has binary digits.
 ghost use Rattle.std.specs.Prelude.{◌≡◌, ◌<◌, ◌≤◌};
-ghost use Rattle.std.specs.Option.{unwrap_or};
-ghost use Rattle.modular.specs.Modular.{modular_gcd, multiplier as multiplier_of};
+ghost use Rattle.modular.specs.Modular.{modular_gcd};
 ghost use Rattle.residue.specs.Residues.{residues};
 
 use crate::modulus::ResidueRing;
 use modular::{common_divisor, multiplier};
 use ring::{Bezout, Code, Ring};
 
-/// The least x below n for which x·b and c are alike modulo n, or 0.
-fn multiplier_or_zero(n: u32, b: u32, c: u32) -> u32
-    ensures value { result ≡ unwrap_or (multiplier_of n b c) 0 }
-    ensures below { 0 < n → result < n }
-{
-    match multiplier(n, b, c) {
-        Some(x) => x,
-        None => 0,
-    }
-}
-
 /// The gcd of the codes a and b modulo n with its least cofactors: u solves u·a = g modulo the divisor of b and n, and v solves what is then missing.
+#[tactic(auto, using(modular::proofs::Residues::gcd_worked_out))]
 fn least_cofactors(n: u32, a: u32, b: u32) -> Bezout
     requires at_least { 2 ≤ n }
     requires at_most { n ≤ 65536 }
@@ -29,9 +18,9 @@ fn least_cofactors(n: u32, a: u32, b: u32) -> Bezout
 {
     let right = common_divisor(b, n);
     let g = common_divisor(a, right);
-    let u = multiplier_or_zero(right, a, g);
+    let u = multiplier(right, a, g).unwrap_or(0);
     let missing = g + (n - u * a % n);
-    let v = multiplier_or_zero(n, b, missing);
+    let v = multiplier(n, b, missing).unwrap_or(0);
     Bezout {
         g: (g % n) as Code,
         u: u as Code,
@@ -39,6 +28,7 @@ fn least_cofactors(n: u32, a: u32, b: u32) -> Bezout
     }
 }
 
+// Each method tests its numbers itself: a helper that takes the operation would have to say again what the operation asks.
 impl Ring for ResidueRing {
     const KIND: u8 = 1;
 
@@ -85,15 +75,12 @@ impl Ring for ResidueRing {
         if a == b {
             return Some(1);
         }
-        match multiplier(self.modulus(), b as u32, a as u32) {
-            Some(q) => Some(q as Code),
-            None => None,
-        }
+        multiplier(self.modulus(), b as u32, a as u32).map(|q| q as Code)
     }
 
     fn gcd(&self, a: Code, b: Code) -> Bezout {
         if !self.holds(a) || !self.holds(b) {
-            return Bezout { g: 0, u: 0, v: 0 };
+            return Bezout::default();
         }
         least_cofactors(self.modulus(), a as u32, b as u32)
     }

@@ -1,9 +1,9 @@
 -- Multiples and quotients in a pair of rings: both go by sides.
 use Rattle.std.proofs.Common.{◌≡◌, ℕ, ◌<◌, Some, None, Option, sym, refl, ap, ◌∙◌}
+use Rattle.std.proofs.lemmas.Option.{none-some}
 use Rattle.ring.specs.CoefficientRing.{CoefficientRing, Multiple}
 use Rattle.ring.specs.Pair.{pair_size, left, right, joined, pair_product, joined_quotient, pair_quotient}
 use Rattle.ring.proofs.Withins.{both_within_inside, both_within_either}
-use Rattle.ring.proofs.RingFacts.{some_is_not_none}
 use Rattle.ring.proofs.PairCodes.{left_of_joined, right_of_joined, joined_below}
 use Rattle.ring.proofs.PairSides.{Side, ring_on, code_on, Reads, itself, reads_below, equal_by_sides, choose, product_on}
 use Rattle.ring.proofs.PairSides.Side.{on_left, on_right}
@@ -27,8 +27,8 @@ module _ (L R : CoefficientRing) where
   Joins o p q = (x : ℕ) × (y : ℕ) × (o ≡ Some x) × (p ≡ Some y) × (q ≡ joined L R x y)
 
   joined_quotient_joins : (o p : Option ℕ) (q : ℕ) → joined_quotient L R o p ≡ Some q → Joins o p q
-  joined_quotient_joins None p q e = absurd (some_is_not_none e refl)
-  joined_quotient_joins (Some x) None q e = absurd (some_is_not_none e refl)
+  joined_quotient_joins None p q e = absurd (none-some q e)
+  joined_quotient_joins (Some x) None q e = absurd (none-some q e)
   joined_quotient_joins (Some x) (Some y) q e = (x, y, refl, refl, cc)
 
   quotient_joins : (a b q : ℕ) → pair_quotient L R a b ≡ Some q → Joins (L.quotient (left L R a) (left L R b)) (R.quotient (right L R a) (right L R b)) q
@@ -37,7 +37,7 @@ module _ (L R : CoefficientRing) where
       let p = R.quotient (right L R a) (right L R b) in
       both_within_either (λ r. r ≡ Some q → Joins o p q) (pair_size L R) a b (joined_quotient L R o p) None
       (λ _ _. joined_quotient_joins o p q)
-      (λ e. absurd (some_is_not_none e refl))
+      (λ e. absurd (none-some q e))
 
   pub pair_quotient_below : (a b q : ℕ) → pair_quotient L R a b ≡ Some q → q < pair_size L R
   pair_quotient_below a b q e =
@@ -56,7 +56,7 @@ module _ (L R : CoefficientRing) where
   joined_quotient_none : (o p : Option ℕ) → joined_quotient L R o p ≡ None → (o ≡ None → ⊥) → (p ≡ None → ⊥) → ⊥
   joined_quotient_none None p e no_left no_right = no_left refl
   joined_quotient_none (Some x) None e no_left no_right = no_right refl
-  joined_quotient_none (Some x) (Some y) e no_left no_right = some_is_not_none refl e
+  joined_quotient_none (Some x) (Some y) e no_left no_right = cc
 
   pub quotient_none_on_a_side : (a b : ℕ) → a < pair_size L R → b < pair_size L R → pair_quotient L R a b ≡ None → ((s : Side) → (ring_on L R s).quotient (code_on L R s a) (code_on L R s b) ≡ None → ⊥) → ⊥
   quotient_none_on_a_side a b ha hb e none =

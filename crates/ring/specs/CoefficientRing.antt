@@ -2,6 +2,13 @@
 use Rattle.std.specs.Prelude.{◌≡◌, ℕ, ◌<◌, ◌≤◌, Some, None, Option}
 use Rattle.ring.specs.declared.Bezout.{Bezout}
 
+-- the fewest codes that a ring has, and the most
+abbrev pub smallest_size : ℕ
+smallest_size = 2
+
+abbrev pub largest_size : ℕ
+largest_size = 65536
+
 -- x is a multiple of b: the product of b and some code
 abbrev pub Multiple : (size : ℕ) → (product : ℕ → ℕ → ℕ) → ℕ → ℕ → Type 0
 Multiple size product x b = (q : ℕ) × (q < size) × (product q b ≡ x)
@@ -19,8 +26,8 @@ pub record CoefficientRing : Type 0 where
   pub annihilator : ℕ → ℕ
   pub residue : ℕ → ℕ → ℕ
   -- a ring has 2 to 65,536 codes, and a kind has a number from 1 to 15
-  pub size_at_least : 2 ≤ size
-  pub size_at_most : size ≤ 65536
+  pub size_at_least : smallest_size ≤ size
+  pub size_at_most : size ≤ largest_size
   pub kind_at_least : 1 ≤ kind
   pub kind_at_most : kind ≤ 15
   -- every answer is a code, whatever was asked

@@ -10,6 +10,7 @@ fn difference_laws<R: Ring>(ring: &R)
 {}
 
 /// Every ring keeps the laws of divisibility.
+#[tactic(auto, using(crate::proofs::RingFacts::divisibility_laws))]
 fn divisibility_laws<R: Ring>(ring: &R)
     ensures { DivisibilityLaws (R.Ring.meaning ring.now) }
 {}

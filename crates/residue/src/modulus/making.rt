@@ -4,12 +4,7 @@ ghost use Rattle.residue.specs.Made.{granted, modulus_of};
 
 use super::ResidueRing;
 use refusal::Refusal;
-use ring::Code;
-
-/// The fewest codes that a ring has, and the most.
-const MIN_SIZE: u32 = 2;
-
-const MAX_SIZE: u32 = 65_536;
+use ring::{Code, MAX_SIZE, MIN_SIZE};
 
 impl ResidueRing {
     /// The integers modulo n; refused where n is not from 2 to 65,536.

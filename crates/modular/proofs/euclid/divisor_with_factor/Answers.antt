@@ -1,19 +1,15 @@
-use Rattle.std.proofs.Common.{arith, rules}
+use Rattle.std.proofs.Common.{arith}
 use Rattle.modular.proofs.Turns.{turn_start, turn_more, turn_end, turn_factor}
-use Rattle.modular.proofs.Multipliers.{solves_divisor, solves_none}
+use Rattle.modular.proofs.Multipliers.{solves_divisor}
 use Rattle.modular.proofs.euclid.divisor_with_factor.Goals as goal
-
-pub returns-then-n-eq0 : goal.returns-then-n-eq0
-returns-then-n-eq0 c = let s = solves_none c.args.b c.args.n c.if-n-eq0.true in search rules
 
 pub loop-s-init : goal.loop-s-init
 loop-s-init c = turn_start c.args.b c.args.n (omega arith)
 
 pub loop-s-preserved : goal.loop-s-preserved
-loop-s-preserved c = rw c.less_multiple-z.ensures (turn_more _ _ _ _ _ _ (omega arith) c.loop-s-test.true c.loop-s.invariant)
+loop-s-preserved c = rw c.less_multiple.ensures (turn_more _ _ _ _ _ _ (omega arith) c.loop-s-test.true c.loop-s.invariant)
 
 pub returns : goal.returns
 returns c =
     let turn = c.loop-s.invariant in
-    let s = solves_divisor c.args.b c.args.n c.loop-s.r c.loop-s.x (omega arith) (turn_end _ _ _ _ _ _ c.loop-s-test.false turn) (turn_factor _ _ _ _ _ _ c.loop-s-test.false turn) in
-    record { divisor = s.divisor; at_most = s.at_most; positive = s.positive; period_positive = s.period_positive; solves = s.solves }
+    solves_divisor c.args.b c.args.n c.loop-s.r c.loop-s.x (omega arith) (turn_end _ _ _ _ _ _ c.loop-s-test.false turn) (turn_factor _ _ _ _ _ _ c.loop-s-test.false turn)
