@@ -5,7 +5,7 @@ use Rattle.std.specs.Ordering.{MatchOrdering}
 use Rattle.order.specs.Term.{Term, mirrored, degree, weighted}
 use Rattle.order.specs.TermOrder.{TermOrder, compared}
 use Rattle.order.specs.Keys.{ByKeys, lex_keys, reverse_keys}
-use Rattle.order.proofs.Compared.{compared_is, compared_ranked, compared_by_numbers}
+use Rattle.order.proofs.Compared.{onward, compared_is, compared_ranked, compared_by_numbers}
 use Rattle.order.proofs.Differences.{lex_in_words, reverse_in_words, mirrored_lex}
 use Rattle.term.specs.Packed.{term_of, packed, Fits}
 use Rattle.term.specs.Orders.{lex, reverse, weight}
@@ -34,18 +34,14 @@ lex_compared m n r h l c =
     less : (m n : ℕ) → m < 2 ^ 64 → n < 2 ^ 64 → ByKeys lex_keys (term_of m) (term_of n) → m / 65536 < n / 65536
     less m n h l b = omega (arith, packed_lex (term_of m) (term_of n) (packing_laws.term_fits m) (packing_laws.term_fits n) b, packed_term m h, packed_term n l)
 
--- numbers known by equations
-less_as : {x y u v : ℕ} → x ≡ u → y ≡ v → x < y → u < v
-less_as {x} {y} {u} {v} p q h = omega arith
-
 -- two numbers that fall the way the terms do where they differ, and on a tie what decides then
 pub first_then : (order : TermOrder) (key : Term → ℕ) (s t : Term) → (key s < key t → order.before s t) → (key t < key s → order.before t s) → {x y : ℕ} → x ≡ key s → y ≡ key t → {q : Ordering} → q ≡ nat_cmp x y → (r : Ordering) {Tie : Type 0} → (key s ≡ key t → Tie → r ≡ compared order s t) → MatchOrdering q (r ≡ Less) Tie (r ≡ Greater) → r ≡ compared order s t
 first_then order key s t less greater {x} {y} p q {q = o} c r {Tie} tie = by o (ranked x y o c)
   where
     by : (o : Ordering) → MatchOrdering o (x < y) (x ≡ y) (y < x) → MatchOrdering o (r ≡ Less) Tie (r ≡ Greater) → r ≡ compared order s t
-    by Less h e = e ∙ compared_is order s t Less (less (less_as p q h))
+    by Less h e = e ∙ compared_is order s t Less (less (omega arith))
     by Equal h e = tie (sym p ∙ h ∙ q) e
-    by Greater h e = e ∙ compared_is order s t Greater (greater (less_as q p h))
+    by Greater h e = e ∙ compared_is order s t Greater (greater (omega arith))
 
 -- reverse: on a tie of the degrees the mirrored terms as numbers, the other way round
 mirrored_less : (s t : Term) → Fits s → Fits t → degree s ≡ degree t → ByKeys reverse_keys s t → packed (mirrored t) 0 < packed (mirrored s) 0
@@ -64,9 +60,4 @@ reverse_tie s t r h l e c =
 -- weight: on a tie of the sums the order below
 pub weight_tie : (w : Term) (below : TermOrder) (s t : Term) → weighted w s ≡ weighted w t → compared below s t ≡ compared (weight w below) s t
 unfolding weight
-weight_tie w below s t e = compared_is (weight w below) s t (compared below s t) (raised (compared below s t) (compared_ranked below s t))
-  where
-    raised : (r : Ordering) → MatchOrdering r (below.before s t) (s ≡ t) (below.before t s) → MatchOrdering r ((weight w below).before s t) (s ≡ t) ((weight w below).before t s)
-    raised Less h = inr (e, h)
-    raised Equal h = h
-    raised Greater h = inr (sym e, h)
+weight_tie w below s t e = compared_is (weight w below) s t (compared below s t) (onward (λ b. inr (e, b)) (λ p. p) (λ b. inr (sym e, b)) (compared below s t) (compared_ranked below s t))

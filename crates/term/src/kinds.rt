@@ -27,6 +27,7 @@ impl Order for Lex {
         Self::KIND
     }
 
+    #[tactic(auto, using(crate::proofs::PackedOrders::lex_compared))]
     fn compare(&self, a: Monomial, b: Monomial) -> Ordering
         ensures value { result ≡ compared lex (term_of a.bits) (term_of b.bits) }
         ensures in_words { FirstRegisterDecides lex }
