@@ -27,9 +27,11 @@ fits_listed s t h = h ∙ simp and-true
 abbrev pub worth : ℕ × ℕ → ℕ
 worth p = p.0 * p.1
 
+-- the weighted sum goes over the pairs of a weight and an exponent
 pub weighted_listed : (w t : Term) {n : ℕ} → n ≡ sum_by worth (zip (exponents w) (exponents t)) → n ≡ weighted w t
 weighted_listed w t h = omega arith
 
+-- with exponents and weights up to 255 it stays far below the largest number of 64 bits
 small : (x y : ℕ) → x ≤ 255 → y ≤ 255 → x * y ≤ 65025
 small x y h l = omega (arith, mul-le-mul h l)
 

@@ -1,6 +1,6 @@
 //! Packed monomials: their parts, and products, quotients and multiples of their terms.
-ghost use Rattle.std.specs.Prelude.{◌≡◌, ◌+◌, ◌*◌, ◌/◌, ◌%◌, ◌<◌, ◌≤◌, max, true, if◌then◌else◌, Some, None, nat_le};
-ghost use Rattle.order.specs.Term.{of_exponents, degree, divides, exponents, lcm, mirrored, product, quotient, weighted};
+ghost use Rattle.std.specs.Prelude.{◌≡◌, true, if◌then◌else◌, Some, None};
+ghost use Rattle.order.specs.Term.{degree, divides, exponents, lcm, mirrored, of_exponents, product, quotient, weighted};
 ghost use Rattle.order.specs.TermLaws.{DivisionLaws, LcmLaws, ProductLaws};
 ghost use Rattle.term.specs.Packed.{coefficient_of, fits, monomial, packed, term_of};
 ghost use Rattle.term.specs.Laws.{PackingLaws};
