@@ -1,6 +1,6 @@
 -- The relations by keys in plain words: which register decides.
-use Rattle.std.proofs.Common.{◌≡◌, ℕ, zero, suc, ◌+◌, ◌-◌, ◌<◌, ◌≤◌, ◌⊎◌, ◌↔◌, List, [], ◌∷◌, length, get_or, sym, refl, ◌∙◌, inl, inr, arith}
-use Rattle.std.proofs.lemmas.List.{get_or_past}
+use Rattle.std.proofs.Common.{◌≡◌, ℕ, zero, suc, ◌+◌, ◌-◌, ◌<◌, ◌≤◌, ◌⊎◌, ◌↔◌, List, [], ◌∷◌, length, get_or, sym, ◌∙◌, inl, inr, arith}
+use Rattle.std.proofs.lemmas.List.{get_or_past, get_or-reverse}
 use Rattle.std.proofs.lemmas.Bool.{cases_lt}
 use Rattle.order.specs.Term.{Term, exponents, exponent, mirrored, degree}
 use Rattle.order.specs.Keys.{ByKeys, lex_keys, partial_sums, reverse_keys}
@@ -38,17 +38,8 @@ pub lex_in_words : (s t : Term) → ByKeys lex_keys s t ↔ FirstDifferenceSmall
 lex_in_words s t = (first_of (exponents s) (exponents t), from_first (exponents s) (exponents t))
 
 -- the exponents of a mirrored term are those from the last register on
-exponent_of_mirrored : (t : Term) (k : ℕ) → k < 6 → exponent (mirrored t) (5 - k) ≡ exponent t k
-exponent_of_mirrored t zero l = refl
-exponent_of_mirrored t (suc zero) l = refl
-exponent_of_mirrored t (suc (suc zero)) l = refl
-exponent_of_mirrored t (suc (suc (suc zero))) l = refl
-exponent_of_mirrored t (suc (suc (suc (suc zero)))) l = refl
-exponent_of_mirrored t (suc (suc (suc (suc (suc zero))))) l = refl
-exponent_of_mirrored t (suc (suc (suc (suc (suc (suc k)))))) l = absurd (omega arith)
-
-exponent_in_mirrored : (t : Term) (k : ℕ) → k < 6 → exponent t (5 - k) ≡ exponent (mirrored t) k
-exponent_in_mirrored t = exponent_of_mirrored (mirrored t)
+exponent_of_mirrored : (t : Term) (k : ℕ) → k < 6 → exponent (mirrored t) k ≡ exponent t (5 - k)
+exponent_of_mirrored t k = get_or-reverse (exponents t) k 0
 
 exponent_past : (s t : Term) (k : ℕ) → 6 ≤ k → exponent s k ≡ exponent t k
 exponent_past s t k l = get_or_past (exponents s) k 0 l ∙ sym (get_or_past (exponents t) k 0 l)
@@ -56,13 +47,13 @@ exponent_past s t k l = get_or_past (exponents s) k 0 l ∙ sym (get_or_past (ex
 -- the last difference is the first from the end
 first_from_last : (s t : Term) → LastDifferenceLarger s t → FirstDifferenceSmaller (mirrored t) (mirrored s)
 first_from_last s t (k, l, h, d) =
-    (5 - k, omega arith, λ j m. sym (exponent_in_mirrored t j (omega arith)) ∙ sym (h (5 - j) (omega arith)) ∙ exponent_in_mirrored s j (omega arith), omega (arith, exponent_of_mirrored t k l, exponent_of_mirrored s k l))
+    (5 - k, omega arith, λ j m. exponent_of_mirrored t j (omega arith) ∙ sym (h (5 - j) (omega arith)) ∙ sym (exponent_of_mirrored s j (omega arith)), omega (arith, exponent_of_mirrored (mirrored t) k l, exponent_of_mirrored (mirrored s) k l))
 
 last_from_first : (s t : Term) → FirstDifferenceSmaller (mirrored t) (mirrored s) → LastDifferenceLarger s t
-last_from_first s t (k, l, h, d) = (5 - k, omega arith, λ j m. same j m (cases_lt j 6), omega (arith, exponent_in_mirrored t k l, exponent_in_mirrored s k l))
+last_from_first s t (k, l, h, d) = (5 - k, omega arith, λ j m. same j m (cases_lt j 6), omega (arith, exponent_of_mirrored t k l, exponent_of_mirrored s k l))
   where
     same : (j : ℕ) → 5 - k < j → (j < 6) ⊎ (6 ≤ j) → exponent s j ≡ exponent t j
-    same j m (inl i) = sym (exponent_of_mirrored s j i) ∙ sym (h (5 - j) (omega arith)) ∙ exponent_of_mirrored t j i
+    same j m (inl i) = exponent_of_mirrored (mirrored s) j i ∙ sym (h (5 - j) (omega arith)) ∙ sym (exponent_of_mirrored (mirrored t) j i)
     same j m (inr i) = exponent_past s t j i
 
 -- of two equal sums the one with the larger last part has the smaller rest

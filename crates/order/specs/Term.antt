@@ -53,6 +53,10 @@ exponents t = t.a ∷ t.b ∷ t.c ∷ t.d ∷ t.e ∷ t.f ∷ []
 abbrev pub exponent : Term → ℕ → ℕ
 exponent t k = slice_index (exponents t) k
 
+-- the term with these exponents
+abbrev pub of_exponents : List ℕ → Term
+of_exponents xs = record { a = slice_index xs 0; b = slice_index xs 1; c = slice_index xs 2; d = slice_index xs 3; e = slice_index xs 4; f = slice_index xs 5 }
+
 -- the term with the exponents of a to f at f to a
 abbrev pub mirrored : Term → Term
 mirrored t = record { a = t.f; b = t.e; c = t.d; d = t.c; e = t.b; f = t.a }

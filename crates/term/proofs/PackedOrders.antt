@@ -1,10 +1,11 @@
 -- How the three orders compare packed terms: lex by one number, reverse and weight by a number first.
-use Rattle.std.proofs.Common.{◌≡◌, ℕ, ◌/◌, ◌^◌, ◌<◌, Ordering, Less, Equal, Greater, sym, ap, ◌∙◌, inl, inr, arith}
+use Rattle.std.proofs.Common.{◌≡◌, ℕ, ◌/◌, ◌^◌, ◌<◌, Ordering, Less, Equal, Greater, nat_cmp, sym, ap, ◌∙◌, inl, inr, arith}
+use Rattle.std.proofs.lemmas.Cmp.{ranked}
 use Rattle.std.specs.Ordering.{MatchOrdering}
 use Rattle.order.specs.Term.{Term, mirrored, degree, weighted}
 use Rattle.order.specs.TermOrder.{TermOrder, compared}
 use Rattle.order.specs.Keys.{ByKeys, lex_keys, reverse_keys}
-use Rattle.order.proofs.Compared.{compared_is, compared_ranked, compared_by_numbers}
+use Rattle.order.proofs.Compared.{onward, compared_is, compared_ranked, compared_by_numbers}
 use Rattle.order.proofs.Differences.{lex_in_words, reverse_in_words, mirrored_lex}
 use Rattle.term.specs.Packed.{term_of, packed, Fits}
 use Rattle.term.specs.Orders.{lex, reverse, weight}
@@ -25,52 +26,38 @@ unfolding weight
 weight_decides w below s t = (λ h. h, λ h. h)
 
 -- lex: the packed numbers without their codes
-pub lex_compared : (m n : ℕ) (r : Ordering) → m < 2 ^ 64 → n < 2 ^ 64 → MatchOrdering r (m / 65536 < n / 65536) (m / 65536 ≡ n / 65536) (n / 65536 < m / 65536) → r ≡ compared lex (term_of m) (term_of n)
+pub lex_compared : (m n : ℕ) (r : Ordering) → m < 2 ^ 64 → n < 2 ^ 64 → r ≡ nat_cmp (m / 65536) (n / 65536) → r ≡ compared lex (term_of m) (term_of n)
 unfolding lex
-lex_compared m n r h l = compared_by_numbers lex (term_of m) (term_of n) (m / 65536) (n / 65536) r (λ b. less m n h l b) (λ e. omega (arith, ap (λ t. packed t 0) e, packed_term m h, packed_term n l)) (λ b. less n m l h b)
+lex_compared m n r h l c =
+    compared_by_numbers lex (term_of m) (term_of n) (m / 65536) (n / 65536) r (less m n h l) (λ e. omega (arith, ap (λ t. packed t 0) e, packed_term m h, packed_term n l)) (less n m l h) (ranked _ _ r c)
   where
     less : (m n : ℕ) → m < 2 ^ 64 → n < 2 ^ 64 → ByKeys lex_keys (term_of m) (term_of n) → m / 65536 < n / 65536
     less m n h l b = omega (arith, packed_lex (term_of m) (term_of n) (packing_laws.term_fits m) (packing_laws.term_fits n) b, packed_term m h, packed_term n l)
 
--- numbers known by equations
-less_as : {x y u v : ℕ} → x ≡ u → y ≡ v → x < y → u < v
-less_as {x} {y} {u} {v} p q h = omega arith
+-- two numbers that fall the way the terms do where they differ, and on a tie what decides then
+pub first_then : (order : TermOrder) (key : Term → ℕ) (s t : Term) → (key s < key t → order.before s t) → (key t < key s → order.before t s) → {x y : ℕ} → x ≡ key s → y ≡ key t → {q : Ordering} → q ≡ nat_cmp x y → (r : Ordering) {Tie : Type 0} → (key s ≡ key t → Tie → r ≡ compared order s t) → MatchOrdering q (r ≡ Less) Tie (r ≡ Greater) → r ≡ compared order s t
+first_then order key s t less greater {x} {y} p q {q = o} c r {Tie} tie = by o (ranked x y o c)
+  where
+    by : (o : Ordering) → MatchOrdering o (x < y) (x ≡ y) (y < x) → MatchOrdering o (r ≡ Less) Tie (r ≡ Greater) → r ≡ compared order s t
+    by Less h e = e ∙ compared_is order s t Less (less (omega arith))
+    by Equal h e = tie (sym p ∙ h ∙ q) e
+    by Greater h e = e ∙ compared_is order s t Greater (greater (omega arith))
 
--- reverse: the degrees, and on a tie the mirrored terms as numbers, the other way round
-pub reverse_less : (s t : Term) {x y : ℕ} → x ≡ degree s → y ≡ degree t → x < y → Less ≡ compared reverse s t
-unfolding reverse
-reverse_less s t p q h = compared_is reverse s t Less (inl (less_as p q h))
-
-pub reverse_greater : (s t : Term) {x y : ℕ} → x ≡ degree s → y ≡ degree t → y < x → Greater ≡ compared reverse s t
-unfolding reverse
-reverse_greater s t p q h = compared_is reverse s t Greater (inl (less_as q p h))
-
+-- reverse: on a tie of the degrees the mirrored terms as numbers, the other way round
 mirrored_less : (s t : Term) → Fits s → Fits t → degree s ≡ degree t → ByKeys reverse_keys s t → packed (mirrored t) 0 < packed (mirrored s) 0
 mirrored_less s t h l e (inl b) = absurd (omega arith)
 mirrored_less s t h l e (inr (p, b)) = packed_lex (mirrored t) (mirrored s) (omega arith) (omega arith) (mirrored_lex s t e b)
 
-pub reverse_tie : (m n x y : ℕ) (r : Ordering) → degree (term_of m) ≡ degree (term_of n) → x ≡ packed (mirrored (term_of m)) 0 → y ≡ packed (mirrored (term_of n)) 0 → MatchOrdering r (y < x) (y ≡ x) (x < y) → r ≡ compared reverse (term_of m) (term_of n)
+pub reverse_tie : (s t : Term) (r : Ordering) → Fits s → Fits t → degree s ≡ degree t → r ≡ nat_cmp (packed (mirrored t) 0) (packed (mirrored s) 0) → r ≡ compared reverse s t
 unfolding reverse
-reverse_tie m n x y r e p q =
-    compared_by_numbers reverse (term_of m) (term_of n) y x r
-    (λ b. omega (arith, mirrored_less (term_of m) (term_of n) (packing_laws.term_fits m) (packing_laws.term_fits n) e b))
-    (λ l. q ∙ ap (λ t. packed (mirrored t) 0) (sym l) ∙ sym p)
-    (λ b. omega (arith, mirrored_less (term_of n) (term_of m) (packing_laws.term_fits n) (packing_laws.term_fits m) (sym e) b))
+reverse_tie s t r h l e c =
+    compared_by_numbers reverse s t (packed (mirrored t) 0) (packed (mirrored s) 0) r
+    (mirrored_less s t h l e)
+    (λ p. ap (λ t. packed (mirrored t) 0) (sym p))
+    (mirrored_less t s l h (sym e))
+    (ranked _ _ r c)
 
--- weight: the sums, and on a tie the order below
-pub weight_less : (w : Term) (below : TermOrder) (s t : Term) {x y : ℕ} → x ≡ weighted w s → y ≡ weighted w t → x < y → Less ≡ compared (weight w below) s t
-unfolding weight
-weight_less w below s t p q h = compared_is (weight w below) s t Less (inl (less_as p q h))
-
-pub weight_greater : (w : Term) (below : TermOrder) (s t : Term) {x y : ℕ} → x ≡ weighted w s → y ≡ weighted w t → y < x → Greater ≡ compared (weight w below) s t
-unfolding weight
-weight_greater w below s t p q h = compared_is (weight w below) s t Greater (inl (less_as q p h))
-
+-- weight: on a tie of the sums the order below
 pub weight_tie : (w : Term) (below : TermOrder) (s t : Term) → weighted w s ≡ weighted w t → compared below s t ≡ compared (weight w below) s t
 unfolding weight
-weight_tie w below s t e = compared_is (weight w below) s t (compared below s t) (raised (compared below s t) (compared_ranked below s t))
-  where
-    raised : (r : Ordering) → MatchOrdering r (below.before s t) (s ≡ t) (below.before t s) → MatchOrdering r ((weight w below).before s t) (s ≡ t) ((weight w below).before t s)
-    raised Less h = inr (e, h)
-    raised Equal h = h
-    raised Greater h = inr (sym e, h)
+weight_tie w below s t e = compared_is (weight w below) s t (compared below s t) (onward (λ b. inr (e, b)) (λ p. p) (λ b. inr (sym e, b)) (compared below s t) (compared_ranked below s t))

@@ -5,16 +5,16 @@ ghost use Rattle.term.specs.Orders.{lex, reverse, weight};
 ghost use Rattle.term.specs.Packed.{term_of};
 ghost use Rattle.term.specs.Laws.{DegreeThenLastRegisterDecides, FirstRegisterDecides, WeightDecides};
 
-use crate::comparing::{compare_lex, compare_reverse, compare_weight};
 use crate::laws::{lex_laws, reverse_laws, weight_laws};
+use crate::monomial::CODES;
 use crate::{Monomial, Order};
 use std::cmp::Ordering;
 
-/// The number of the weight orders' kind.
+/// The number of the weight orders' kind. A constant of its own, since nothing is known of `Self::KIND` in a generic impl.
 const WEIGHT_KIND: u8 = 3;
 
 /// Kind 1: the first register from a that differs decides, and the larger exponent is greater.
-#[derive(Clone, Copy)]
+#[derive(Clone, Copy, PartialEq, Eq, Debug)]
 pub struct Lex;
 
 impl Order for Lex {
@@ -27,17 +27,18 @@ impl Order for Lex {
         Self::KIND
     }
 
+    #[tactic(auto, using(crate::proofs::PackedOrders::lex_compared))]
     fn compare(&self, a: Monomial, b: Monomial) -> Ordering
         ensures value { result ≡ compared lex (term_of a.bits) (term_of b.bits) }
         ensures in_words { FirstRegisterDecides lex }
     {
         lex_laws();
-        compare_lex(a, b)
+        (a.bits / CODES).cmp(&(b.bits / CODES))
     }
 }
 
 /// Kind 2: the larger total degree is greater; on a tie the last register that differs decides, and the smaller exponent is greater.
-#[derive(Clone, Copy)]
+#[derive(Clone, Copy, PartialEq, Eq, Debug)]
 pub struct Reverse;
 
 impl Order for Reverse {
@@ -55,12 +56,14 @@ impl Order for Reverse {
         ensures in_words { DegreeThenLastRegisterDecides reverse }
     {
         reverse_laws();
-        compare_reverse(a, b)
+        a.degree()
+            .cmp(&b.degree())
+            .then_with(|| b.mirrored().cmp(&a.mirrored()))
     }
 }
 
 /// Kind 3, over any order: the larger sum of exponent times weight is greater, and a tie is left to the order below.
-#[derive(Clone, Copy)]
+#[derive(Clone, Copy, PartialEq, Eq, Debug)]
 pub struct Weight<O> {
     /// Six weights packed like exponents; the low 16 bits count for nothing.
     pub weights: Monomial,
@@ -91,6 +94,8 @@ impl<O: Order> Order for Weight<O> {
     }
 
     fn compare(&self, a: Monomial, b: Monomial) -> Ordering {
-        compare_weight(self, a, b)
+        a.weighted_degree(self.weights)
+            .cmp(&b.weighted_degree(self.weights))
+            .then_with(|| self.below.compare(a, b))
     }
 }

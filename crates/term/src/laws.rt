@@ -8,21 +8,25 @@ ghost use Rattle.term.specs.Packed.{term_of};
 use crate::{Monomial, Order};
 
 /// A packed number is its term and its code.
+#[tactic(auto, using(crate::proofs::Packing::packing_laws))]
 pub(crate) fn packing_laws()
     ensures { PackingLaws }
 {}
 
 /// The laws of products of terms.
+#[tactic(auto, using(order::proofs::Terms::product_laws))]
 pub(crate) fn product_laws()
     ensures { ProductLaws }
 {}
 
 /// The laws of quotients of terms.
+#[tactic(auto, using(order::proofs::Terms::division_laws))]
 pub(crate) fn division_laws()
     ensures { DivisionLaws }
 {}
 
 /// The laws of least common multiples of terms.
+#[tactic(auto, using(order::proofs::Terms::lcm_laws))]
 pub(crate) fn lcm_laws()
     ensures { LcmLaws }
 {}
@@ -40,6 +44,7 @@ pub(crate) fn reverse_laws()
 {}
 
 /// What weight is.
+#[tactic(auto, using(crate::proofs::PackedOrders::weight_decides), unfolding(crate::specs::Orders::weight))]
 pub(crate) fn weight_laws<O: Order>(weights: Monomial, below: &O)
     ensures kind { (weight (term_of weights.bits) (O.Order.meaning below.now)).kind ≡ 3 }
     ensures in_words { WeightDecides (term_of weights.bits) (O.Order.meaning below.now) (weight (term_of weights.bits) (O.Order.meaning below.now)) }

@@ -1,7 +1,6 @@
 //! Packed monomials of the registers a to f, and the orders by which terms are compared.
 #![tactic(auto)]
 
-mod comparing;
 mod kinds;
 mod laws;
 mod monomial;
