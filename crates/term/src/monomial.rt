@@ -27,7 +27,7 @@ const E: u64 = 0x0000_0000_0100_0000;
 const F: u64 = 0x0000_0000_0001_0000;
 
 /// A term and a coefficient code in one number: from the top the exponents of a to f, 8 bits each, then the code in 16 bits.
-#[derive(Clone, Copy, PartialEq, Eq, Debug)]
+#[derive(Clone, Copy, PartialEq, Eq, Debug, Default)]
 pub struct Monomial {
     pub bits: u64,
 }
