@@ -2,7 +2,6 @@
 #![tactic(auto)]
 
 mod checks;
-mod choice;
 mod laws;
 mod row;
 mod rows;

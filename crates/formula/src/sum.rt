@@ -1,19 +1,18 @@
 //! Adding a step, which is a monomial times a line, to a formula in memory.
-ghost use Rattle.std.specs.Prelude.{◌≡◌, ◌+◌, ◌<◌, ◌≤◌, true, length, drop};
+ghost use Rattle.std.specs.Prelude.{◌≡◌, true, length, slice_index_or, MatchResult};
+ghost use Rattle.std.specs.List.{prefix_len};
 ghost use Rattle.order.specs.Term.{product};
-ghost use Rattle.order.specs.TermOrder.{compared};
 ghost use Rattle.term.specs.Packed.{fits};
-ghost use Rattle.formula.specs.Formula.{term};
-ghost use Rattle.formula.specs.Held.{Appended, Unchanged, held, outcome, shown};
+ghost use Rattle.term.specs.declared.monomial.Monomial.{Monomial};
+ghost use Rattle.formula.specs.Formula.{blank, is_after, term};
+ghost use Rattle.formula.specs.Held.{Appended, NoRoom, ProductIn, Unchanged, held, outcome, shown};
 ghost use Rattle.formula.specs.Laws.{AdditionLaw};
-ghost use Rattle.formula.specs.Sum.{added, chosen, merged, multiplied, nonzero, plus, products_fit, times};
+ghost use Rattle.formula.specs.Sum.{added, joined, merged, multiplied, plus, products_fit, times, unjoined};
 
-use crate::choice::Choice;
 use crate::laws::addition_law;
 use crate::{Row, WorkingFormula};
 use refusal::Refusal;
 use ring::Ring;
-use std::cmp::Ordering;
 use term::{Monomial, Order};
 
 /// Adds factor times line to the formula in memory. It refuses where an exponent of a product passes 255, then where the sum has more than 64 monomials, and changes nothing then.
@@ -29,26 +28,56 @@ pub fn add_step<R: Ring, O: Order, M: Row>(
     ensures law { AdditionLaw (R.Ring.meaning ring.now) (O.Order.meaning order.now) }
 {
     addition_law(ring, order);
-    let sum = step_sum(ring, order, work.monomials(), factor, line)?;
+    let sum = step_sum(ring, order, work.monomials(), &Multiple { factor, line })?;
     *work = sum;
     Ok(())
 }
 
-/// The sum of a formula and factor times line, in new memory.
+/// A monomial times a line.
+#[derive(Drop)]
+struct Multiple<'a, M> {
+    factor: Monomial,
+    line: &'a M,
+}
+
+impl<M: Row> Multiple<'_, M> {
+    /// How many products there are.
+    fn length(&self) -> usize
+        ensures { result ≡ length (M.Row.monomials self.now.line.now) }
+    {
+        self.line.length()
+    }
+
+    /// Whether no exponent of the products passes 255.
+    fn fits(&self) -> bool
+        ensures { result ≡ products_fit self.now.factor (M.Row.monomials self.now.line.now) }
+    {
+        (0..self.length()).all(|k| product_fits(self.factor, self.line.monomial(k)))
+    }
+
+    /// The product of a number, counted from 0.
+    fn product<R: Ring>(&self, ring: &R, k: usize) -> Monomial
+        requires { fits (product (term self.now.factor) (term (slice_index_or (M.Row.monomials self.now.line.now) k blank))) ≡ true }
+        ensures { result ≡ times (R.Ring.meaning ring.now) self.now.factor (slice_index_or (M.Row.monomials self.now.line.now) k blank) }
+    {
+        times(ring, self.factor, self.line.monomial(k))
+    }
+}
+
+/// The sum of a formula and a multiple of a line, in new memory.
 fn step_sum<R: Ring, O: Order, M: Row>(
     ring: &R,
     order: &O,
     formula: &[Monomial],
-    factor: Monomial,
-    line: &M,
+    multiple: &Multiple<'_, M>,
 ) -> Result<WorkingFormula, Refusal>
-    ensures { outcome result ≡ added (R.Ring.meaning ring.now) (O.Order.meaning order.now) formula.now factor (M.Row.monomials line.now) }
+    ensures { outcome result ≡ added (R.Ring.meaning ring.now) (O.Order.meaning order.now) formula.now multiple.now.factor (M.Row.monomials multiple.now.line.now) }
 {
-    if !products_fit(factor, line) {
+    if !multiple.fits() {
         return Err(Refusal::ExponentTooLarge);
     }
     let mut sum = WorkingFormula::new();
-    put_sum(ring, order, formula, factor, line, &mut sum)?;
+    put_sum(ring, order, formula, multiple, &mut sum)?;
     Ok(sum)
 }
 
@@ -57,18 +86,6 @@ fn product_fits(factor: Monomial, m: Monomial) -> bool
     ensures { result ≡ fits (product (term factor) (term m)) }
 {
     factor.product(m).is_some()
-}
-
-/// Whether no exponent of the products of factor and line passes 255.
-fn products_fit<M: Row>(factor: Monomial, line: &M) -> bool
-    ensures { result ≡ products_fit factor (M.Row.monomials line.now) }
-{
-    for k in 0..line.length() {
-        if !product_fits(factor, line.monomial(k)) {
-            return false;
-        }
-    }
-    true
 }
 
 /// The product of two monomials.
@@ -87,69 +104,64 @@ fn plus<R: Ring>(ring: &R, m: Monomial, n: Monomial) -> Monomial
     m.with_coefficient(ring.sum(m.coefficient(), n.coefficient()))
 }
 
-/// What comes next in a sum of two lists whose next monomials are m and n.
-fn choose<R: Ring, O: Order>(ring: &R, order: &O, m: Monomial, n: Monomial) -> Choice
-    ensures what { result ≡ chosen (compared (O.Order.meaning order.now) (term m) (term n)) (R.Ring.meaning ring.now) m n }
-    ensures steps { (result.left ≤ 1) × (result.right ≤ 1) × (0 < result.left + result.right) }
+/// How many monomials in front of a list have terms after that of a product.
+fn leading<O: Order>(order: &O, list: &[Monomial], product: Monomial) -> usize
+    ensures { result ≡ prefix_len (is_after (O.Order.meaning order.now) product) list.now }
 {
-    match order.compare(m, n) {
-        Ordering::Less => Choice {
-            put: n,
-            left: 0,
-            right: 1,
-        },
-        Ordering::Equal => Choice {
-            put: plus(ring, m, n),
-            left: 1,
-            right: 1,
-        },
-        Ordering::Greater => Choice {
-            put: m,
-            left: 1,
-            right: 0,
-        },
-    }
+    list.iter()
+        .take_while(|m| order.compare(**m, product).is_gt())
+        .count()
 }
 
-/// Puts factor times the monomials of a line from a number on behind what is held.
-fn put_products<R: Ring, M: Row>(
+/// A product with the first monomial of a list added where that has the same term, and what is left of the list.
+fn join<'a, R: Ring, O: Order>(
     ring: &R,
-    factor: Monomial,
-    line: &M,
-    first: usize,
-    sum: &mut WorkingFormula,
-) -> Result<(), Refusal>
-    requires { (first ≤ length (M.Row.monomials line.now)) × (products_fit factor (drop first (M.Row.monomials line.now)) ≡ true) }
-    ensures { Appended (held sum.old) (nonzero (multiplied (R.Ring.meaning ring.now) factor (drop first (M.Row.monomials line.now)))) result (held sum.new) }
+    order: &O,
+    list: &'a [Monomial],
+    product: Monomial,
+) -> (Monomial, &'a [Monomial])
+    ensures joined { result.0 ≡ joined (R.Ring.meaning ring.now) (O.Order.meaning order.now) list.now product }
+    ensures rest { result.1.now ≡ unjoined (O.Order.meaning order.now) list.now product }
 {
-    for k in first..line.length() {
-        sum.put(times(ring, factor, line.monomial(k)))?;
+    match list {
+        [m, rest @ ..] if order.compare(*m, product).is_eq() => (plus(ring, *m, product), rest),
+        _ => (product, list),
     }
-    Ok(())
 }
 
-/// Puts the sum of a formula and factor times line behind what is held.
+/// Puts a product behind what is held, and in front of it the monomials of a list whose terms are after its own. It gives what is left of the list.
+fn put_product<'a, R: Ring, O: Order>(
+    ring: &R,
+    order: &O,
+    list: &'a [Monomial],
+    product: Monomial,
+    sum: &mut WorkingFormula,
+) -> Result<&'a [Monomial], Refusal>
+    ensures { MatchResult result
+        (λ left. ProductIn (R.Ring.meaning ring.now) (O.Order.meaning order.now) (held sum.old) list.now product left.now (held sum.new))
+        (λ e. NoRoom (R.Ring.meaning ring.now) (O.Order.meaning order.now) (held sum.old) list.now product e) }
+{
+    let (greater, others) = list.split_at(leading(order, list, product));
+    sum.put_all(greater)?;
+    let (next, left) = join(ring, order, others, product);
+    sum.put(next)?;
+    Ok(left)
+}
+
+/// Puts the sum of a formula and a multiple of a line behind what is held.
 fn put_sum<R: Ring, O: Order, M: Row>(
     ring: &R,
     order: &O,
     formula: &[Monomial],
-    factor: Monomial,
-    line: &M,
+    multiple: &Multiple<'_, M>,
     sum: &mut WorkingFormula,
 ) -> Result<(), Refusal>
-    requires { products_fit factor (M.Row.monomials line.now) ≡ true }
-    ensures { Appended (held sum.old) (merged (R.Ring.meaning ring.now) (O.Order.meaning order.now) formula.now (multiplied (R.Ring.meaning ring.now) factor (M.Row.monomials line.now))) result (held sum.new) }
+    requires { products_fit multiple.now.factor (M.Row.monomials multiple.now.line.now) ≡ true }
+    ensures { Appended (held sum.old) (merged (R.Ring.meaning ring.now) (O.Order.meaning order.now) formula.now (multiplied (R.Ring.meaning ring.now) multiple.now.factor (M.Row.monomials multiple.now.line.now))) result (held sum.new) }
 {
-    let len = line.length();
-    let mut i = 0;
-    let mut j = 0;
-    while i < formula.len() && j < len {
-        let product = times(ring, factor, line.monomial(j));
-        let next = choose(ring, order, formula[i], product);
-        sum.put(next.put)?;
-        i += next.left;
-        j += next.right;
+    let mut rest = formula;
+    for k in 0..multiple.length() {
+        rest = put_product(ring, order, rest, multiple.product(ring, k), sum)?;
     }
-    sum.put_all(&formula[i..formula.len()])?;
-    put_products(ring, factor, line, j, sum)
+    sum.put_all(rest)
 }
