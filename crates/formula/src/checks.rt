@@ -3,6 +3,7 @@ ghost use Rattle.std.specs.Prelude.{◌≡◌};
 ghost use Rattle.formula.specs.Formula.{checked, coded, falling, is_before, is_coefficient};
 ghost use Rattle.formula.specs.Laws.{FormulaLaws};
 
+use crate::PolynomialRing;
 use crate::laws::formula_laws;
 use refusal::Refusal;
 use ring::Ring;
@@ -11,22 +12,24 @@ use term::{Monomial, Order};
 /// The largest number of monomials in a formula.
 pub const MAX_MONOMIALS: usize = 64;
 
-/// Whether a list of monomials is a formula. It refuses a list of more than 64 monomials, then a coefficient that is 0 or no code, then terms that do not fall.
-pub fn check<R: Ring, O: Order>(ring: &R, order: &O, formula: &[Monomial]) -> Result<(), Refusal>
-    ensures value { result ≡ checked (R.Ring.meaning ring.now) (O.Order.meaning order.now) formula.now }
-    ensures laws { FormulaLaws (R.Ring.meaning ring.now) (O.Order.meaning order.now) }
-{
-    formula_laws(ring, order);
-    if formula.len() > MAX_MONOMIALS {
-        return Err(Refusal::TooManyMonomials);
+impl<R: Ring, O: Order> PolynomialRing<R, O> {
+    /// Whether a list of monomials is a formula. It refuses a list of more than 64 monomials, then a coefficient that is 0 or no code, then terms that do not fall.
+    pub fn check(&self, formula: &[Monomial]) -> Result<(), Refusal>
+        ensures value { result ≡ checked (R.Ring.meaning self.now.ring) (O.Order.meaning self.now.order) formula.now }
+        ensures laws { FormulaLaws (R.Ring.meaning self.now.ring) (O.Order.meaning self.now.order) }
+    {
+        formula_laws(self);
+        if formula.len() > MAX_MONOMIALS {
+            return Err(Refusal::TooManyMonomials);
+        }
+        if !coded(&self.ring, formula) {
+            return Err(Refusal::CoefficientOutOfRange);
+        }
+        if !falling(&self.order, formula) {
+            return Err(Refusal::TermsNotFalling);
+        }
+        Ok(())
     }
-    if !coded(ring, formula) {
-        return Err(Refusal::CoefficientOutOfRange);
-    }
-    if !falling(order, formula) {
-        return Err(Refusal::TermsNotFalling);
-    }
-    Ok(())
 }
 
 /// Whether a number is a coefficient: not 0, and below the size of the ring.

@@ -10,27 +10,92 @@ ghost use Rattle.formula.specs.Laws.{AdditionLaw};
 ghost use Rattle.formula.specs.Sum.{added, joined, merged, multiplied, plus, products_fit, times, unjoined};
 
 use crate::laws::addition_law;
-use crate::{Row, WorkingFormula};
+use crate::{PolynomialRing, Row, WorkingFormula};
 use refusal::Refusal;
 use ring::Ring;
 use term::{Monomial, Order};
 
-/// Adds factor times line to the formula in memory. It refuses where an exponent of a product passes 255, then where the sum has more than 64 monomials, and changes nothing then.
-pub fn add_step<R: Ring, O: Order, M: Row>(
-    ring: &R,
-    order: &O,
-    work: &mut WorkingFormula,
-    factor: Monomial,
-    line: &M,
-) -> Result<(), Refusal>
-    ensures value { shown result (held work.new) ≡ added (R.Ring.meaning ring.now) (O.Order.meaning order.now) (held work.old) factor (M.Row.monomials line.now) }
-    ensures unchanged { Unchanged result work.old work.new }
-    ensures law { AdditionLaw (R.Ring.meaning ring.now) (O.Order.meaning order.now) }
-{
-    addition_law(ring, order);
-    let sum = step_sum(ring, order, work.monomials(), &Multiple { factor, line })?;
-    *work = sum;
-    Ok(())
+impl<R: Ring, O: Order> PolynomialRing<R, O> {
+    /// Adds factor times line to the formula in memory. It refuses where an exponent of a product passes 255, then where the sum has more than 64 monomials, and changes nothing then.
+    pub fn add_step<M: Row>(
+        &self,
+        work: &mut WorkingFormula,
+        factor: Monomial,
+        line: &M,
+    ) -> Result<(), Refusal>
+        ensures value { shown result (held work.new) ≡ added (R.Ring.meaning self.now.ring) (O.Order.meaning self.now.order) (held work.old) factor (M.Row.monomials line.now) }
+        ensures unchanged { Unchanged result work.old work.new }
+        ensures law { AdditionLaw (R.Ring.meaning self.now.ring) (O.Order.meaning self.now.order) }
+    {
+        addition_law(self);
+        let sum = self.step_sum(work.monomials(), &Multiple { factor, line })?;
+        *work = sum;
+        Ok(())
+    }
+
+    /// The sum of a formula and a multiple of a line, in new memory.
+    fn step_sum<M: Row>(
+        &self,
+        formula: &[Monomial],
+        multiple: &Multiple<'_, M>,
+    ) -> Result<WorkingFormula, Refusal>
+        ensures { outcome result ≡ added (R.Ring.meaning self.now.ring) (O.Order.meaning self.now.order) formula.now multiple.now.factor (M.Row.monomials multiple.now.line.now) }
+    {
+        if !multiple.fits() {
+            return Err(Refusal::ExponentTooLarge);
+        }
+        let mut sum = WorkingFormula::new();
+        self.put_sum(formula, multiple, &mut sum)?;
+        Ok(sum)
+    }
+
+    /// Puts the sum of a formula and a multiple of a line behind what is held.
+    fn put_sum<M: Row>(
+        &self,
+        formula: &[Monomial],
+        multiple: &Multiple<'_, M>,
+        sum: &mut WorkingFormula,
+    ) -> Result<(), Refusal>
+        requires { products_fit multiple.now.factor (M.Row.monomials multiple.now.line.now) ≡ true }
+        ensures { Appended (held sum.old) (merged (R.Ring.meaning self.now.ring) (O.Order.meaning self.now.order) formula.now (multiplied (R.Ring.meaning self.now.ring) multiple.now.factor (M.Row.monomials multiple.now.line.now))) result (held sum.new) }
+    {
+        let mut rest = formula;
+        for k in 0..multiple.length() {
+            rest = self.put_product(rest, multiple.product(&self.ring, k), sum)?;
+        }
+        sum.put_all(rest)
+    }
+
+    /// Puts a product behind what is held, and in front of it the monomials of a list whose terms are after its own. It gives what is left of the list.
+    fn put_product<'a>(
+        &self,
+        list: &'a [Monomial],
+        product: Monomial,
+        sum: &mut WorkingFormula,
+    ) -> Result<&'a [Monomial], Refusal>
+        ensures { MatchResult result
+            (λ left. ProductIn (R.Ring.meaning self.now.ring) (O.Order.meaning self.now.order) (held sum.old) list.now product left.now (held sum.new))
+            (λ e. NoRoom (R.Ring.meaning self.now.ring) (O.Order.meaning self.now.order) (held sum.old) list.now product e) }
+    {
+        let (greater, others) = list.split_at(leading(&self.order, list, product));
+        sum.put_all(greater)?;
+        let (next, left) = self.join(others, product);
+        sum.put(next)?;
+        Ok(left)
+    }
+
+    /// A product with the first monomial of a list added where that has the same term, and what is left of the list.
+    fn join<'a>(&self, list: &'a [Monomial], product: Monomial) -> (Monomial, &'a [Monomial])
+        ensures joined { result.0 ≡ joined (R.Ring.meaning self.now.ring) (O.Order.meaning self.now.order) list.now product }
+        ensures rest { result.1.now ≡ unjoined (O.Order.meaning self.now.order) list.now product }
+    {
+        match list {
+            [m, rest @ ..] if self.order.compare(*m, product).is_eq() => {
+                (plus(&self.ring, *m, product), rest)
+            }
+            _ => (product, list),
+        }
+    }
 }
 
 /// A monomial times a line.
@@ -64,23 +129,6 @@ impl<M: Row> Multiple<'_, M> {
     }
 }
 
-/// The sum of a formula and a multiple of a line, in new memory.
-fn step_sum<R: Ring, O: Order, M: Row>(
-    ring: &R,
-    order: &O,
-    formula: &[Monomial],
-    multiple: &Multiple<'_, M>,
-) -> Result<WorkingFormula, Refusal>
-    ensures { outcome result ≡ added (R.Ring.meaning ring.now) (O.Order.meaning order.now) formula.now multiple.now.factor (M.Row.monomials multiple.now.line.now) }
-{
-    if !multiple.fits() {
-        return Err(Refusal::ExponentTooLarge);
-    }
-    let mut sum = WorkingFormula::new();
-    put_sum(ring, order, formula, multiple, &mut sum)?;
-    Ok(sum)
-}
-
 /// Whether no exponent of the product of two terms passes 255.
 fn product_fits(factor: Monomial, m: Monomial) -> bool
     ensures { result ≡ fits (product (term factor) (term m)) }
@@ -111,57 +159,4 @@ fn leading<O: Order>(order: &O, list: &[Monomial], product: Monomial) -> usize
     list.iter()
         .take_while(|m| order.compare(**m, product).is_gt())
         .count()
-}
-
-/// A product with the first monomial of a list added where that has the same term, and what is left of the list.
-fn join<'a, R: Ring, O: Order>(
-    ring: &R,
-    order: &O,
-    list: &'a [Monomial],
-    product: Monomial,
-) -> (Monomial, &'a [Monomial])
-    ensures joined { result.0 ≡ joined (R.Ring.meaning ring.now) (O.Order.meaning order.now) list.now product }
-    ensures rest { result.1.now ≡ unjoined (O.Order.meaning order.now) list.now product }
-{
-    match list {
-        [m, rest @ ..] if order.compare(*m, product).is_eq() => (plus(ring, *m, product), rest),
-        _ => (product, list),
-    }
-}
-
-/// Puts a product behind what is held, and in front of it the monomials of a list whose terms are after its own. It gives what is left of the list.
-fn put_product<'a, R: Ring, O: Order>(
-    ring: &R,
-    order: &O,
-    list: &'a [Monomial],
-    product: Monomial,
-    sum: &mut WorkingFormula,
-) -> Result<&'a [Monomial], Refusal>
-    ensures { MatchResult result
-        (λ left. ProductIn (R.Ring.meaning ring.now) (O.Order.meaning order.now) (held sum.old) list.now product left.now (held sum.new))
-        (λ e. NoRoom (R.Ring.meaning ring.now) (O.Order.meaning order.now) (held sum.old) list.now product e) }
-{
-    let (greater, others) = list.split_at(leading(order, list, product));
-    sum.put_all(greater)?;
-    let (next, left) = join(ring, order, others, product);
-    sum.put(next)?;
-    Ok(left)
-}
-
-/// Puts the sum of a formula and a multiple of a line behind what is held.
-fn put_sum<R: Ring, O: Order, M: Row>(
-    ring: &R,
-    order: &O,
-    formula: &[Monomial],
-    multiple: &Multiple<'_, M>,
-    sum: &mut WorkingFormula,
-) -> Result<(), Refusal>
-    requires { products_fit multiple.now.factor (M.Row.monomials multiple.now.line.now) ≡ true }
-    ensures { Appended (held sum.old) (merged (R.Ring.meaning ring.now) (O.Order.meaning order.now) formula.now (multiplied (R.Ring.meaning ring.now) multiple.now.factor (M.Row.monomials multiple.now.line.now))) result (held sum.new) }
-{
-    let mut rest = formula;
-    for k in 0..multiple.length() {
-        rest = put_product(ring, order, rest, multiple.product(ring, k), sum)?;
-    }
-    sum.put_all(rest)
 }

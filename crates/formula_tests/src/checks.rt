@@ -2,7 +2,7 @@
 use crate::model::{Counters, Model, packed_list};
 use crate::plain::{Plain, Rule};
 use crate::random::Random;
-use formula::WorkingFormula;
+use formula::{PolynomialRing, WorkingFormula};
 use refusal::Refusal;
 use ring::Ring;
 use std::alloc::{AllocError, Global};
@@ -88,14 +88,13 @@ fn spoiled(
 /// Compares what the checks answer with what they are to answer, and gives that; above 64 monomials memory refuses the list too.
 pub(crate) fn check_agrees<R: Ring, O: Order>(
     rt: &impl Abort,
-    ring: &R,
-    order: &O,
+    polynomials: &PolynomialRing<R, O>,
     model: Model,
     list: &[Plain],
     heap: Global,
 ) -> Result<u8, Fail> {
     let packed = packed_list(list, heap)?;
-    let answer = number(formula::check(ring, order, packed.as_slice()));
+    let answer = number(polynomials.check(packed.as_slice()));
     let is_held = WorkingFormula::holding(packed.as_slice()).is_ok();
     assert_eq!(rt;
         (answer, is_held),
@@ -122,8 +121,7 @@ fn random_list(model: Model, random: &mut Random, heap: Global) -> Result<Vec<Pl
 /// Compares the checks on random lists; each answer is to come.
 pub(crate) fn checks_agree<R: Ring, O: Order>(
     rt: &impl Abort,
-    ring: &R,
-    order: &O,
+    polynomials: &PolynomialRing<R, O>,
     model: Model,
     random: &mut Random,
     heap: Global,
@@ -131,7 +129,7 @@ pub(crate) fn checks_agree<R: Ring, O: Order>(
     let mut seen = 0;
     for _ in 0..1_000u32 {
         let list = random_list(model, random, heap)?;
-        let answer = check_agrees(rt, ring, order, model, list.as_slice(), heap)?;
+        let answer = check_agrees(rt, polynomials, model, list.as_slice(), heap)?;
         seen = with_answer(seen, answer);
     }
     assert_eq!(rt;

@@ -4,6 +4,7 @@ use crate::model::{Counters, Model};
 use crate::plain::{Below, Plain, Rule};
 use crate::random::Random;
 use crate::sums::sums_agree;
+use formula::PolynomialRing;
 use pair::PairRing;
 use residue::ResidueRing;
 use ring::Ring;
@@ -15,20 +16,19 @@ use term::{Lex, Monomial, Order, Reverse, Weight};
 /// Compares checks and sums over a ring and an order.
 fn formulas_agree<R: Ring, O: Order>(
     rt: &impl Abort,
-    ring: &R,
-    order: &O,
+    polynomials: &PolynomialRing<R, O>,
     model: Model,
     heap: Global,
 ) -> Result<(), Fail> {
     let mut random = Random::new(2);
-    checks_agree(rt, ring, order, model, &mut random, heap)?;
-    sums_agree(rt, ring, order, model, &mut random, heap)
+    checks_agree(rt, polynomials, model, &mut random, heap)?;
+    sums_agree(rt, polynomials, model, &mut random, heap)
 }
 
 /// Compares checks and sums over a ring under each order.
-fn orders_agree<R: Ring>(
+fn orders_agree<R: Ring + Drop>(
     rt: &impl Abort,
-    ring: &R,
+    ring: R,
     counters: Counters,
     weights: Monomial,
     heap: Global,
@@ -50,16 +50,23 @@ fn orders_agree<R: Ring>(
         counters,
         rule: Rule::new(plain_weights, Below::Reverse),
     };
-    formulas_agree(rt, ring, &Lex, lex, heap)?;
-    formulas_agree(rt, ring, &Reverse, reverse, heap)?;
-    formulas_agree(rt, ring, &Weight::new(weights, Lex), weight_lex, heap)?;
-    formulas_agree(
-        rt,
-        ring,
-        &Weight::new(weights, Reverse),
-        weight_reverse,
-        heap,
-    )
+    let polynomials = PolynomialRing { ring, order: Lex };
+    formulas_agree(rt, &polynomials, lex, heap)?;
+    let polynomials = PolynomialRing {
+        ring: polynomials.ring,
+        order: Reverse,
+    };
+    formulas_agree(rt, &polynomials, reverse, heap)?;
+    let polynomials = PolynomialRing {
+        ring: polynomials.ring,
+        order: Weight::new(weights, Lex),
+    };
+    formulas_agree(rt, &polynomials, weight_lex, heap)?;
+    let polynomials = PolynomialRing {
+        ring: polynomials.ring,
+        order: Weight::new(weights, Reverse),
+    };
+    formulas_agree(rt, &polynomials, weight_reverse, heap)
 }
 
 #[test]
@@ -74,7 +81,7 @@ fn formulas_over_residue_rings(rt: HostRuntime) -> Result<(), Fail> {
         let counters = Counters { left: 1, right: n };
         orders_agree(
             &rt,
-            &ResidueRing::new(n)?,
+            ResidueRing::new(n)?,
             counters,
             Monomial { bits },
             rt.alloc(),
@@ -93,5 +100,5 @@ fn formulas_over_a_pair(rt: HostRuntime) -> Result<(), Fail> {
     let weights = Monomial {
         bits: 0x0300_0000_0101_0000,
     };
-    orders_agree(&rt, &ring, counters, weights, rt.alloc())
+    orders_agree(&rt, ring, counters, weights, rt.alloc())
 }

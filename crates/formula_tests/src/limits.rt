@@ -3,6 +3,8 @@ use crate::checks::check_agrees;
 use crate::model::{Counters, Model};
 use crate::plain::{Below, Plain, Rule, Term};
 use crate::sums::{Parts, sum_agrees};
+use formula::PolynomialRing;
+use refusal::Refusal;
 use residue::ResidueRing;
 use std::alloc::{AllocError, Global};
 use std::process::Abort;
@@ -17,6 +19,14 @@ const SIX: Model = Model {
         below: Below::Reverse,
     },
 };
+
+/// The ring of six codes with the order reverse, as the library has them.
+fn six_codes() -> Result<PolynomialRing<ResidueRing, Reverse>, Refusal> {
+    Ok(PolynomialRing {
+        ring: ResidueRing::new(6)?,
+        order: Reverse,
+    })
+}
 
 /// A power of a register, which is counted from 0.
 fn power(register: usize, exponent: u32) -> Term {
@@ -72,12 +82,12 @@ fn added<'a>(
         factor,
         line,
     };
-    sum_agrees(rt, &ResidueRing::new(6)?, &Reverse, SIX, &parts, heap)
+    sum_agrees(rt, &six_codes()?, SIX, &parts, heap)
 }
 
 /// The answer to checking a list over six codes, compared with the one worked out.
 fn checked(rt: &impl Abort, list: &[Plain], heap: Global) -> Result<u8, Fail> {
-    check_agrees(rt, &ResidueRing::new(6)?, &Reverse, SIX, list, heap)
+    check_agrees(rt, &six_codes()?, SIX, list, heap)
 }
 
 #[test]

@@ -4,7 +4,7 @@ use crate::model::{Counters, Model, packed_list, random_term};
 use crate::plain;
 use crate::plain::{Plain, Term};
 use crate::random::Random;
-use formula::{WorkingFormula, add_step};
+use formula::{PolynomialRing, WorkingFormula};
 use ring::Ring;
 use std::alloc::Global;
 use std::process::Abort;
@@ -120,8 +120,7 @@ fn held(list: &[Plain], heap: Global) -> Result<WorkingFormula, Fail> {
 /// Compares adding a step with the sum worked out at each term, or with the refusal that is due and memory as it was, and gives the answer.
 pub(crate) fn sum_agrees<R: Ring, O: Order>(
     rt: &impl Abort,
-    ring: &R,
-    order: &O,
+    polynomials: &PolynomialRing<R, O>,
     model: Model,
     parts: &Parts<'_>,
     heap: Global,
@@ -130,7 +129,7 @@ pub(crate) fn sum_agrees<R: Ring, O: Order>(
     let mut work = held(parts.formula, heap)?;
     let line = held(parts.line, heap)?;
     let factor = parts.factor.packed().unwrap_or(Monomial { bits: 0 });
-    let answer = number(add_step(ring, order, &mut work, factor, &line));
+    let answer = number(polynomials.add_step(&mut work, factor, &line));
     assert_eq!(rt; answer, parts.verdict(model.counters), "answer, {model:?}");
     let right = if answer == 0 {
         is_sum(model, parts, work.monomials())
@@ -164,8 +163,7 @@ fn random_bound(random: &mut Random) -> u32 {
 /// Compares adding random steps, every fourth time of the formula itself; each answer is to come.
 pub(crate) fn sums_agree<R: Ring, O: Order>(
     rt: &impl Abort,
-    ring: &R,
-    order: &O,
+    polynomials: &PolynomialRing<R, O>,
     model: Model,
     random: &mut Random,
     heap: Global,
@@ -186,7 +184,7 @@ pub(crate) fn sums_agree<R: Ring, O: Order>(
             factor,
             line,
         };
-        seen = with_answer(seen, sum_agrees(rt, ring, order, model, &parts, heap)?);
+        seen = with_answer(seen, sum_agrees(rt, polynomials, model, &parts, heap)?);
     }
     assert_eq!(rt;
         seen,

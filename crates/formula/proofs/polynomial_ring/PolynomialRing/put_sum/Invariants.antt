@@ -2,12 +2,12 @@
 use Rattle.std.proofs.Common.{◌≡◌, true, ◌++◌, drop}
 use Rattle.formula.specs.Held.{held}
 use Rattle.formula.specs.Sum.{merged, multiplied, products_fit}
-use Rattle.formula.proofs.sum.put_sum.Given as goal
+use Rattle.formula.proofs.polynomial_ring.PolynomialRing.put_sum.Given as goal
 
 abbrev pub invariant-loop-k : goal.invariant-loop-k
 invariant-loop-k g l =
-    let ring = g.R.Ring.meaning l.ring in
-    let order = g.O.Order.meaning l.order in
+    let ring = g.R.Ring.meaning l.self.ring in
+    let order = g.O.Order.meaning l.self.order in
     let s = l.multiple.factor in
     let line = g.M.Row.monomials l.multiple.line.now in
     record {

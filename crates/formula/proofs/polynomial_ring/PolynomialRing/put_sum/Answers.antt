@@ -4,12 +4,12 @@ use Rattle.formula.specs.Held.{held}
 use Rattle.formula.specs.Sum.{merged, multiplied, nonzero}
 use Rattle.formula.proofs.Puts.{appended_same}
 use Rattle.formula.proofs.Merging.{products_all}
-use Rattle.formula.proofs.sum.put_sum.Goals as goal
+use Rattle.formula.proofs.polynomial_ring.PolynomialRing.put_sum.Goals as goal
 
 pub returns : goal.returns
 returns g c =
-    let ring = g.R.Ring.meaning c.args.ring.now in
-    let order = g.O.Order.meaning c.args.order.now in
+    let ring = g.R.Ring.meaning c.args.self.now.ring in
+    let order = g.O.Order.meaning c.args.self.now.order in
     let s = c.args.multiple.now.factor in
     let line = g.M.Row.monomials c.args.multiple.now.line.now in
     let before = held c.loop-k.sum in
