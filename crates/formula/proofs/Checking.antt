@@ -1,11 +1,10 @@
 -- The checks: one step and the end of each, and that they tell formulas.
-use Rattle.std.proofs.Common.{◌≡◌, ℕ, ◌+◌, ◌-◌, ◌<◌, ◌≤◌, Bool, true, false, ◌&&◌, ltb, leb, ◌↔◌, List, [], ◌∷◌, length, get_or, take, drop, Ok, Decides, Result, Ordering, Less, Equal, Greater, sym, refl, ap, ◌∙◌, arith}
+use Rattle.std.proofs.Common.{◌≡◌, ℕ, zero, suc, add-one, ◌+◌, ◌<◌, ◌≤◌, Bool, true, false, ◌&&◌, ltb, leb, ◌↔◌, List, [], ◌∷◌, length, get_or, Ok, Decides, Result, Ordering, Less, Equal, Greater, sym, refl, ap, arith}
 use Rattle.std.proofs.ByRecursion.{All-weaker, Decides-by_and}
-use Rattle.std.proofs.lemmas.List.{at_drop_more, at_drop_all, drop_more, take_rest}
-use Rattle.std.proofs.lemmas.Bool.{leb-true, le-leb}
+use Rattle.std.proofs.lemmas.Bool.{and_from, and_left, and_right, leb-true, le-leb}
 use Rattle.std.proofs.lemmas.Bool.Decides.{Decides-and, Decides-like, Decides-ltb}
 use Rattle.std.specs.Ordering.{MatchOrdering, is_lt}
-use Rattle.std.specs.List.{AllByRecursion}
+use Rattle.std.specs.List.{AllByRecursion, IsAllAdjacentAnswer, list_all}
 use Rattle.refusal.specs.declared.Refusal.{Refusal}
 use Rattle.refusal.specs.declared.Refusal.TheVariants.{TooManyMonomials, CoefficientOutOfRange, TermsNotFalling}
 use Rattle.ring.specs.CoefficientRing.{CoefficientRing}
@@ -15,20 +14,25 @@ use Rattle.order.proofs.Compared.{compared_ranked, compared_is}
 use Rattle.term.specs.declared.monomial.Monomial.{Monomial}
 use Rattle.formula.specs.Formula.{Coefficient, Falling, Formula, blank, checked, code, coded, falling, falling_after, is_before, is_coefficient, max_monomials, provided, term}
 
-pub coded_more : (ring : CoefficientRing) (f : List Monomial) (i : ℕ) → i < length f → coded ring (drop i f) ≡ (is_coefficient ring (code (get_or f i blank)) && coded ring (drop (i + 1) f))
-coded_more ring f i h = at_drop_more (coded ring) f i blank h
+pub coded_is_all : (ring : CoefficientRing) (f : List Monomial) → coded ring f ≡ list_all (λ m. is_coefficient ring (code m)) f
+coded_is_all ring [] = refl
+coded_is_all ring (m ∷ f) = ap (λ b. is_coefficient ring (code m) && b) (coded_is_all ring f)
 
-pub coded_all : (ring : CoefficientRing) (f : List Monomial) (i : ℕ) → length f ≤ i → coded ring (drop i f) ≡ true
-coded_all ring f i h = at_drop_all (coded ring) f i h
+all_fall : (order : TermOrder) (f : List Monomial) → ((k : ℕ) → k + 1 < length f → is_before order (get_or f (k + 1) blank) (get_or f k blank) ≡ true) → falling order f ≡ true
+all_fall order [] h = refl
+all_fall order (m ∷ []) h = refl
+all_fall order (m ∷ n ∷ f) h = and_from (is_before order n m) (falling_after order n f) (h 0 (omega arith)) (all_fall order (n ∷ f) (λ k l. rw add-one (simp add-one at (h (suc k) (omega (arith, l))))))
 
-pub falling_more : (order : TermOrder) (m : Monomial) (f : List Monomial) (i : ℕ) → i < length f → falling_after order m (drop i f) ≡ (is_before order (get_or f i blank) m && falling_after order (get_or f i blank) (drop (i + 1) f))
-falling_more order m f i h = at_drop_more (falling_after order m) f i blank h
+one_rises : (order : TermOrder) (f : List Monomial) (k : ℕ) → k + 1 < length f → is_before order (get_or f (k + 1) blank) (get_or f k blank) ≡ false → falling order f ≡ false
+one_rises order [] k l e = absurd (omega arith)
+one_rises order (m ∷ []) k l e = absurd (omega arith)
+one_rises order (m ∷ n ∷ f) zero l e = and_left (is_before order n m) (falling_after order n f) e
+one_rises order (m ∷ n ∷ f) (suc k) l e = and_right (is_before order n m) (falling_after order n f) (one_rises order (n ∷ f) k (omega (arith, l)) (rw add-one (simp add-one at e)))
 
-pub falling_all : (order : TermOrder) (m : Monomial) (f : List Monomial) (i : ℕ) → length f ≤ i → falling_after order m (drop i f) ≡ true
-falling_all order m f i h = at_drop_all (falling_after order m) f i h
-
-pub falling_split : (order : TermOrder) (f : List Monomial) → 0 < length f → falling_after order (get_or f 0 blank) (take (length f - 1) (drop 1 f)) ≡ falling order f
-falling_split order f h = ap (falling_after order (get_or f 0 blank)) (take_rest f 1) ∙ sym (ap (falling order) (drop_more f 0 blank h))
+-- the test of each two neighbours tells whether a list falls
+pub falling_by_neighbours : (order : TermOrder) (f : List Monomial) (r : Bool) → IsAllAdjacentAnswer (λ m n b. b ≡ is_before order n m) f r → r ≡ falling order f
+falling_by_neighbours order f true h = sym (all_fall order f (λ k l. sym (h k blank l)))
+falling_by_neighbours order f false h = sym (one_rises order f h.0 h.1 (sym (h.2 blank)))
 
 pub decides_coded : (ring : CoefficientRing) (f : List Monomial) → Decides (coded ring f) (AllByRecursion (λ m. Coefficient ring (code m)) f)
 decides_coded ring f = Decides-by_and (λ m. is_coefficient ring (code m)) (λ m. Coefficient ring (code m)) (coded ring) (λ m. Decides-and (ltb 0 (code m)) (ltb (code m) ring.size) (Decides-ltb 0 (code m)) (Decides-ltb (code m) ring.size)) refl (λ _ _. refl) f

@@ -8,3 +8,4 @@ pub mod Additions
 pub mod Formulas
 pub mod Adding
 pub mod Texts
+pub mod Powers

@@ -1,82 +1,48 @@
--- One step of multiplying and of merging lists.
-use Rattle.std.proofs.Common.{◌≡◌, ℕ, zero, suc, ◌+◌, ◌-◌, ◌<◌, ◌≤◌, true, ◌&&◌, ◌⊎◌, List, [], ◌∷◌, ◌++◌, length, get_or, take, drop, Ordering, Less, Equal, Greater, sym, refl, ap, ◌∙◌, inl, inr, ⊎_elim, add-zero, arith}
-use Rattle.std.proofs.lemmas.List.{at_drop_more, at_drop_all, drop_more, drop_all, append-nil, take_rest}
-use Rattle.std.proofs.lemmas.Bool.{and_parts}
+-- Adding a multiple of a line to a list, product by product.
+use Rattle.std.proofs.Common.{◌≡◌, ℕ, ◌≤◌, List, [], ◌∷◌, ◌++◌, length, get_or, take, drop, Ordering, Less, Equal, Greater, sym, refl, ap, ◌∙◌}
+use Rattle.std.proofs.Math.Numerals.{one-add}
+use Rattle.std.proofs.lemmas.List.{append_assoc, at_drop_all}
+use Rattle.std.proofs.lemmas.List.Folds.{list_all-map}
+use Rattle.std.proofs.lemmas.List.FromFn.{fill_by_all}
+use Rattle.std.specs.List.{list_all, prefix_len, range_with_len}
 use Rattle.ring.specs.CoefficientRing.{CoefficientRing}
 use Rattle.order.specs.Term.{product}
 use Rattle.order.specs.TermOrder.{TermOrder, compared}
 use Rattle.term.specs.Packed.{fits}
 use Rattle.term.specs.declared.monomial.Monomial.{Monomial}
-use Rattle.formula.specs.Formula.{blank, term}
-use Rattle.formula.specs.Sum.{chosen, kept, merged, multiplied, nonzero, picked, products_fit, times}
-use Rattle.formula.specs.declared.choice.Choice.{Choice}
+use Rattle.formula.specs.Formula.{blank, is_after, term}
+use Rattle.formula.specs.Sum.{joined, kept, merged, multiplied, nonzero, products_fit, unjoined}
 
-pub products_fit_more : (s : Monomial) (xs : List Monomial) (j : ℕ) → j < length xs → products_fit s (drop j xs) ≡ (fits (product (term s) (term (get_or xs j blank))) && products_fit s (drop (j + 1) xs))
-products_fit_more s xs j h = at_drop_more (products_fit s) xs j blank h
-
-pub products_fit_all : (s : Monomial) (xs : List Monomial) (j : ℕ) → length xs ≤ j → products_fit s (drop j xs) ≡ true
-products_fit_all s xs j h = at_drop_all (products_fit s) xs j h
-
--- while all fit, the next fits, and all after it
-pub fits_next : (s : Monomial) (xs : List Monomial) (j : ℕ) (m : Monomial) → m ≡ get_or xs j blank → j < length xs → products_fit s (drop j xs) ≡ true → fits (product (term s) (term m)) ≡ true
-fits_next s xs j m r h e = ap (λ x. fits (product (term s) (term x))) r ∙ (and_parts _ _ (sym (products_fit_more s xs j h) ∙ e)).0
-
-pub fits_after : (s : Monomial) (xs : List Monomial) (j : ℕ) → j < length xs → products_fit s (drop j xs) ≡ true → products_fit s (drop (j + 1) xs) ≡ true
-fits_after s xs j h e = (and_parts _ _ (sym (products_fit_more s xs j h) ∙ e)).1
-
-pub fits_on : (s : Monomial) (xs : List Monomial) (j r : ℕ) → j < length xs → r ≤ 1 → products_fit s (drop j xs) ≡ true → products_fit s (drop (j + r) xs) ≡ true
-fits_on s xs j zero h l e = rw (add-zero j) e
-fits_on s xs j (suc zero) h l e = fits_after s xs j h e
-fits_on s xs j (suc (suc r)) h l e = absurd (omega arith)
-
-pub nonzero_more : (xs : List Monomial) (j : ℕ) → j < length xs → nonzero (drop j xs) ≡ kept (get_or xs j blank) ++ nonzero (drop (j + 1) xs)
-nonzero_more xs j h = at_drop_more nonzero xs j blank h
-
-pub nonzero_all : (xs : List Monomial) (j : ℕ) → length xs ≤ j → nonzero (drop j xs) ≡ []
-nonzero_all xs j h = at_drop_all nonzero xs j h
-
-module _ (ring : CoefficientRing) (s : Monomial) (line : List Monomial) where
-  -- p is the next product
-  pub multiplied_more : (j : ℕ) (m p : Monomial) → m ≡ get_or line j blank → p ≡ times ring s m → j < length line → multiplied ring s (drop j line) ≡ p ∷ multiplied ring s (drop (j + 1) line)
-  multiplied_more j m p r e h = at_drop_more (multiplied ring s) line j blank h ∙ ap (λ p. p ∷ multiplied ring s (drop (j + 1) line)) (sym (e ∙ ap (times ring s) r))
-
-  pub products_more : (j : ℕ) (m p : Monomial) → m ≡ get_or line j blank → p ≡ times ring s m → j < length line → nonzero (multiplied ring s (drop j line)) ≡ kept p ++ nonzero (multiplied ring s (drop (j + 1) line))
-  products_more j m p r e h = ap nonzero (multiplied_more j m p r e h)
-
-  pub multiplied_all : (j : ℕ) → length line ≤ j → multiplied ring s (drop j line) ≡ []
-  multiplied_all j h = at_drop_all (multiplied ring s) line j h
-
-  pub products_all : (j : ℕ) → length line ≤ j → nonzero (multiplied ring s (drop j line)) ≡ []
-  products_all j h = ap nonzero (multiplied_all j h)
+-- the test of each number tells whether the products fit
+pub products_fit_is_all : (s : Monomial) (xs : List Monomial) → products_fit s xs ≡ list_all (λ k. fits (product (term s) (term (get_or xs k blank)))) (range_with_len 0 (length xs))
+products_fit_is_all s xs =
+    ap (products_fit s) (fill_by_all (λ k. get_or xs k blank) xs (length xs) blank refl (λ k h. refl))
+    ∙ list_all-map (λ m. fits (product (term s) (term m))) (λ k. get_or xs k blank) (range_with_len 0 (length xs))
 
 module _ (ring : CoefficientRing) (order : TermOrder) where
-  merged_at : (F G f g : List Monomial) (m n : Monomial) → F ≡ m ∷ f → G ≡ n ∷ g → merged ring order F G ≡ picked (compared order (term m) (term n)) ring m n (merged ring order F g) (merged ring order f g) (merged ring order f G)
-  merged_at F G f g m n p q = rw (p, q)
+  -- the monomials in front whose terms are after that of n come first, then n, joined with the next where that has the same term
+  abbrev Turn : Monomial → (f g : List Monomial) → Type 0
+  Turn n f g =
+      let i = prefix_len (is_after order n) f in
+      merged ring order f (n ∷ g) ≡ nonzero (take i f) ++ (kept (joined ring order (drop i f) n) ++ merged ring order (unjoined order (drop i f) n) g)
 
-  -- where one list is at its end, the other is the rest
-  merged_end : (F G : List Monomial) → (F ≡ []) ⊎ (G ≡ []) → merged ring order F G ≡ nonzero F ++ nonzero G
-  merged_end [] G h = refl
-  merged_end (m ∷ f) [] h = sym (append-nil (nonzero (m ∷ f)))
-  merged_end (m ∷ f) (n ∷ g) h = ⊎_elim (λ e. let z : ◌≡◌ {A = ℕ} 0 1 = cc in absurd (omega arith)) (λ e. let z : ◌≡◌ {A = ℕ} 0 1 = cc in absurd (omega arith)) h
+  turn_more : (n m : Monomial) (f g : List Monomial) (o : Ordering) → compared order (term m) (term n) ≡ o → Turn n f g → Turn n (m ∷ f) g
+  turn_more n m f g Less e h = rw (e, e)
+  turn_more n m f g Equal e h = rw (e, e)
+  turn_more n m f g Greater e h = rw (e, one-add) (ap (λ l. kept m ++ l) h ∙ sym (append_assoc (kept m) _ _))
 
-  module _ (s : Monomial) (f line : List Monomial) where
-    -- what is chosen, and where it goes on
-    picked_is : (i j : ℕ) (m n : Monomial) (o : Ordering) →
-        picked o ring m n (merged ring order (drop i f) (multiplied ring s (drop (j + 1) line))) (merged ring order (drop (i + 1) f) (multiplied ring s (drop (j + 1) line))) (merged ring order (drop (i + 1) f) (multiplied ring s (drop j line)))
-        ≡ kept (chosen o ring m n).put ++ merged ring order (drop (i + (chosen o ring m n).left) f) (multiplied ring s (drop (j + (chosen o ring m n).right) line))
-    picked_is i j m n Less = rw (add-zero i)
-    picked_is i j m n Equal = refl
-    picked_is i j m n Greater = rw (add-zero j)
+  turn : (n : Monomial) (f g : List Monomial) → Turn n f g
+  turn n [] g = refl
+  turn n (m ∷ f) g = turn_more n m f g (compared order (term m) (term n)) refl (turn n f g)
 
-    -- a turn: m of the line is multiplied to p, and c is chosen
-    pub merged_more : (i j : ℕ) (m p : Monomial) (c : Choice) → i < length f → j < length line → m ≡ get_or line j blank → p ≡ times ring s m → c ≡ chosen (compared order (term (get_or f i blank)) (term p)) ring (get_or f i blank) p →
-        merged ring order (drop i f) (multiplied ring s (drop j line)) ≡ kept c.put ++ merged ring order (drop (i + c.left) f) (multiplied ring s (drop (j + c.right) line))
-    merged_more i j m p c hi hj r e k =
-        merged_at _ _ _ _ _ _ (drop_more f i blank hi) (multiplied_more ring s line j m p r e hj)
-        ∙ picked_is i j (get_or f i blank) p (compared order (term (get_or f i blank)) (term p))
-        ∙ ap (λ c. kept c.put ++ merged ring order (drop (i + c.left) f) (multiplied ring s (drop (j + c.right) line))) (sym k)
+  merged_alone : (f : List Monomial) → merged ring order f [] ≡ nonzero f
+  merged_alone [] = refl
+  merged_alone (m ∷ f) = refl
 
-    pub merged_rest : (i j : ℕ) → (length f ≤ i) ⊎ (length line ≤ j) → merged ring order (drop i f) (multiplied ring s (drop j line)) ≡ nonzero (take (length f - i) (drop i f)) ++ nonzero (multiplied ring s (drop j line))
-    merged_rest i j h =
-        merged_end _ _ (⊎_elim (λ a. inl (drop_all i f a)) (λ b. inr (multiplied_all ring s line j b)) h)
-        ∙ ap (λ x. nonzero x ++ nonzero (multiplied ring s (drop j line))) (sym (take_rest f i))
+  -- n goes in: the first i of a list are in front, next and left are as n joins the others
+  pub product_in : (f front others left : List Monomial) (i : ℕ) (n next : Monomial) → i ≡ prefix_len (is_after order n) f → front ≡ take i f → others ≡ drop i f → next ≡ joined ring order others n → left ≡ unjoined order others n
+      → (g : List Monomial) → merged ring order f (n ∷ g) ≡ nonzero front ++ (kept next ++ merged ring order left g)
+  product_in f front others left i n next ei ef eo en el g = turn n f g ∙ rw (en, el, ef, eo, ei)
+
+  pub products_all : (s : Monomial) (line f : List Monomial) (k : ℕ) → length line ≤ k → merged ring order f (multiplied ring s (drop k line)) ≡ nonzero f
+  products_all s line f k h = ap (merged ring order f) (at_drop_all (multiplied ring s) line k h) ∙ merged_alone f

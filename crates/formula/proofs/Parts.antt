@@ -1,11 +1,11 @@
 -- The parts of a sum: terms and codes of products and sums of monomials, and monomials that are kept.
-use Rattle.std.proofs.Common.{◌≡◌, ℕ, ◌^◌, ◌<◌, ◌≤◌, true, cond, eqb, List, [], ◌∷◌, ◌++◌, Some, None, Option, sym, ap, ◌∙◌, ap₂, arith}
-use Rattle.std.proofs.lemmas.Bool.{cond_both, cond-true, eqb-true, eqb-false}
+use Rattle.std.proofs.Common.{◌≡◌, ℕ, ◌^◌, ◌<◌, ◌≤◌, true, eqb, List, [], ◌∷◌, ◌++◌, arith}
+use Rattle.std.proofs.lemmas.Bool.{cond_both, eqb-true, eqb-false}
 use Rattle.std.specs.List.{AllByRecursion}
 use Rattle.ring.specs.CoefficientRing.{CoefficientRing}
 use Rattle.order.specs.Term.{Term, product}
 use Rattle.order.proofs.Terms.{division_laws}
-use Rattle.term.specs.Packed.{Fits, fits, largest, monomial, term_of}
+use Rattle.term.specs.Packed.{Fits, fits, largest}
 use Rattle.term.specs.declared.monomial.Monomial.{Monomial}
 use Rattle.term.proofs.Packing.{packing_laws}
 use Rattle.formula.specs.Formula.{code, term}
@@ -36,16 +36,6 @@ module _ (ring : CoefficientRing) where
 
   pub times_packed : (s m : Monomial) → fits (product (term s) (term m)) ≡ true → (times ring s m).bits < 2 ^ 64
   times_packed s m h = packing_laws.packed_below (product (term s) (term m)) (ring.product (code s) (code m)) (fits_is (product (term s) (term m)) h) (small (ring.product_below (code s) (code m)) ring.size_at_most)
-
-  -- a product p that is there, with the product of the codes
-  pub times_is : (s m p r : Monomial) (c : ℕ) (o : Option Monomial) → fits (product (term s) (term m)) ≡ true → o ≡ cond (fits (product (term s) (term m))) (Some (monomial (product (term s) (term m)) 0)) None → o ≡ Some p → c ≡ ring.product (code s) (code m) → r ≡ monomial (term_of p.bits) c → r ≡ times ring s m
-  times_is s m p r c o h e there k is = is ∙ ap₂ monomial (ap (λ p. term_of p.bits) found ∙ packing_laws.term_of_packed (product (term s) (term m)) 0 (fits_is (product (term s) (term m)) h) (omega arith)) k
-    where
-      some : Some p ≡ Some (monomial (product (term s) (term m)) 0)
-      some = sym there ∙ e ∙ cond-true (fits (product (term s) (term m))) (Some (monomial (product (term s) (term m)) 0)) None h
-
-      found : p ≡ monomial (product (term s) (term m)) 0
-      found = cc
 
 -- a monomial is kept exactly where its code is not 0
 pub kept_cases : (Q : List Monomial → Type 0) (m : Monomial) → (code m ≡ 0 → Q []) → (0 < code m → Q (m ∷ [])) → Q (kept m)

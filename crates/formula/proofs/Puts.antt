@@ -1,6 +1,6 @@
 -- A list that is put together in memory: `before` is held, `left` is still to come, and they make up `all`.
-use Rattle.std.proofs.Common.{◌≡◌, ◌<◌, List, [], ◌++◌, length, Ok, Err, Result, sym, ap, ◌∙◌, subst, arith}
-use Rattle.std.proofs.lemmas.List.{append_assoc, append-nil, length-append}
+use Rattle.std.proofs.Common.{◌≡◌, ◌<◌, List, ◌++◌, length, Ok, Err, Result, sym, ap, ◌∙◌, subst, arith}
+use Rattle.std.proofs.lemmas.List.{append_assoc, length-append}
 use Rattle.refusal.specs.declared.Refusal.{Refusal}
 use Rattle.term.specs.declared.monomial.Monomial.{Monomial}
 use Rattle.formula.specs.Formula.{max_monomials}
@@ -14,10 +14,6 @@ put_more before after xs rest left all split put inv = ap (λ l. l ++ rest) put 
 pub no_room : (before xs rest left all : List Monomial) → left ≡ xs ++ rest → max_monomials < length (before ++ xs) → before ++ left ≡ all → max_monomials < length all
 no_room before xs rest left all split over inv =
     omega (arith, over, ap length (ap (λ l. before ++ l) (sym split) ∙ inv), length-append before (xs ++ rest), length-append before xs, length-append xs rest)
-
--- nothing is left
-pub put_all : (before left all : List Monomial) → left ≡ [] → before ++ left ≡ all → before ≡ all
-put_all before left all none inv = sym (append-nil before) ∙ ap (λ l. before ++ l) (sym none) ∙ inv
 
 -- the same list, otherwise cut
 pub appended_same : (r : Result (Unit {0}) Refusal) (b x b' x' after : List Monomial) → b ++ x ≡ b' ++ x' → Appended b x r after → Appended b' x' r after

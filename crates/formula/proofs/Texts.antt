@@ -1,14 +1,14 @@
 -- Text that is written piece by piece: of `all`, `left` is still to come.
-use Rattle.std.proofs.Common.{◌≡◌, ℕ, ◌+◌, ◌-◌, ◌<◌, ◌≤◌, true, List, [], ◌∷◌, ◌++◌, length, get_or, take, drop, is_ok, Result, sym, refl, ap, ◌∙◌}
+use Rattle.std.proofs.Common.{◌≡◌, ℕ, ◌+◌, ◌<◌, true, List, [], ◌∷◌, ◌++◌, length, get_or, drop, is_ok, Result, sym, refl, ap, ◌∙◌}
 use lib.Utf8.{encode}
 use Rattle.std.proofs.Output.{has_written_of_eq, has_written_append, writes_in_calls_nil}
-use Rattle.std.proofs.lemmas.List.{append_assoc, append-nil, at_drop_all, at_drop_more, drop_more, take_rest}
+use Rattle.std.proofs.lemmas.List.{append_assoc, append-nil, at_drop_more}
 use Rattle.std.specs.Fmt.{IsPlainFormatter, WritesOnOk, HasWritten, digits}
 use Rattle.std.specs.declared.fmt.Error.{Error}
 use Rattle.std.specs.declared.fmt.Formatter.{Formatter}
 use Rattle.term.specs.declared.monomial.Monomial.{Monomial}
 use Rattle.formula.specs.Formula.{blank}
-use Rattle.formula.specs.Text.{TextReadings, formula_text, monomial_text, rest_text}
+use Rattle.formula.specs.Text.{TextReadings, monomial_text, rest_text}
 
 pub text_readings : TextReadings
 unfolding encode digits
@@ -17,18 +17,12 @@ text_readings = record { no_monomial = refl; three_a²_b = refl; one_left_out = 
 pub rest_text_more : (one : ℕ) (f : List Monomial) (i : ℕ) → i < length f → rest_text one (drop i f) ≡ (43 ∷ monomial_text one (get_or f i blank)) ++ rest_text one (drop (i + 1) f)
 rest_text_more one f i h = at_drop_more (rest_text one) f i blank h
 
-pub rest_text_all : (one : ℕ) (f : List Monomial) (i : ℕ) → length f ≤ i → rest_text one (drop i f) ≡ []
-rest_text_all one f i h = at_drop_all (rest_text one) f i h
-
-pub formula_text_split : (one : ℕ) (f : List Monomial) → 0 < length f → monomial_text one (get_or f 0 blank) ++ rest_text one (take (length f - 1) (drop 1 f)) ≡ formula_text one f
-formula_text_split one f h = ap (λ g. monomial_text one (get_or f 0 blank) ++ rest_text one g) (take_rest f 1) ∙ sym (ap (formula_text one) (drop_more f 0 blank h))
-
 module _ {W : Type 0} (took : W → List ℕ → W → Type 0) where
   abbrev pub Writing : (entry now : Formatter W) → (left all : List ℕ) → Type 0
   Writing entry now left all = IsPlainFormatter entry → (w : List ℕ) × HasWritten took entry w now × (w ++ left ≡ all)
 
-  pub writing_none : (f : Formatter W) (all : List ℕ) → Writing f f all all
-  writing_none f all plain = ([], record { wrote = writes_in_calls_nil took f.writer; plain = plain }, refl)
+  pub writing_first : (f : Formatter W) (left all : List ℕ) → left ≡ all → Writing f f left all
+  writing_first f left all e plain = ([], record { wrote = writes_in_calls_nil took f.writer; plain = plain }, e)
 
   pub writing_more : (entry f g : Formatter W) (r : Result (Unit {0}) Error) (piece rest left all : List ℕ) → left ≡ piece ++ rest → WritesOnOk took f r piece g → is_ok r ≡ true → Writing entry f left all → Writing entry g rest all
   writing_more entry f g r piece rest left all split p ok w plain =

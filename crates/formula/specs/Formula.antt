@@ -1,6 +1,6 @@
 -- Formulas: lists of up to 64 packed monomials with coefficients and strictly falling terms, and the checks of a list.
 use Rattle.std.specs.Prelude.{ℕ, ◌<◌, ◌≤◌, Bool, true, cond, ◌&&◌, List, [], ◌∷◌, length, Ok, Err, Result, nat_le, nat_lt}
-use Rattle.std.specs.Ordering.{is_lt}
+use Rattle.std.specs.Ordering.{is_gt, is_lt}
 use Rattle.std.specs.List.{AllByRecursion}
 use Rattle.refusal.specs.declared.Refusal.{Refusal}
 use Rattle.refusal.specs.declared.Refusal.TheVariants.{TooManyMonomials, CoefficientOutOfRange, TermsNotFalling}
@@ -47,6 +47,10 @@ is_coefficient ring c = nat_lt 0 c && nat_lt c ring.size
 -- whether the term of m is before the term of n
 abbrev pub is_before : TermOrder → Monomial → Monomial → Bool
 is_before order m n = is_lt (compared order (term m) (term n))
+
+-- whether the term of m is after the term of n
+abbrev pub is_after : TermOrder → Monomial → Monomial → Bool
+is_after order n m = is_gt (compared order (term m) (term n))
 
 -- whether every code is a coefficient
 abbrev pub coded : CoefficientRing → List Monomial → Bool

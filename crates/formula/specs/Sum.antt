@@ -1,5 +1,6 @@
 -- Adding a monomial times a line to a formula, on lists.
 use Rattle.std.specs.Prelude.{Bool, true, cond, ◌&&◌, List, [], ◌∷◌, ◌++◌, length, Ok, Result, ◌==◌, nat_le}
+use Rattle.std.specs.Ordering.{is_eq}
 use Rattle.std.specs.declared.cmp.Ordering.TheVariants.{Less, Equal, Greater}
 use Rattle.std.specs.declared.cmp.Ordering.{Ordering}
 use Rattle.refusal.specs.declared.Refusal.{Refusal}
@@ -10,7 +11,6 @@ use Rattle.order.specs.TermOrder.{TermOrder, compared}
 use Rattle.term.specs.Packed.{fits, monomial}
 use Rattle.term.specs.declared.monomial.Monomial.{Monomial}
 use Rattle.formula.specs.Formula.{code, max_monomials, provided, term}
-use Rattle.formula.specs.declared.choice.Choice.{Choice}
 
 -- a monomial, unless its code is 0
 abbrev pub kept : Monomial → List Monomial
@@ -39,11 +39,19 @@ abbrev pub multiplied : CoefficientRing → Monomial → List Monomial → List 
 multiplied ring s [] = []
 multiplied ring s (m ∷ f) = times ring s m ∷ multiplied ring s f
 
--- which of two monomials comes next in a sum, or their sum, and how far that goes on in each list
-abbrev pub chosen : Ordering → CoefficientRing → Monomial → Monomial → Choice
-chosen Less ring m n = record { put = n; left = 0; right = 1 }
-chosen Equal ring m n = record { put = plus ring m n; left = 1; right = 1 }
-chosen Greater ring m n = record { put = m; left = 1; right = 0 }
+-- whether the terms of two monomials stand alike in an order
+abbrev pub is_beside : TermOrder → Monomial → Monomial → Bool
+is_beside order m n = is_eq (compared order (term m) (term n))
+
+-- a monomial with the first of a list added where that has the same term
+abbrev pub joined : CoefficientRing → TermOrder → List Monomial → Monomial → Monomial
+joined ring order [] n = n
+joined ring order (m ∷ f) n = cond (is_beside order m n) (plus ring m n) n
+
+-- what is left of the list
+abbrev pub unjoined : TermOrder → List Monomial → Monomial → List Monomial
+unjoined order [] n = []
+unjoined order (m ∷ f) n = cond (is_beside order m n) f (m ∷ f)
 
 -- the next monomial in front of the rest, which is given for each of the three cases
 abbrev pub picked : Ordering → CoefficientRing → Monomial → Monomial → (past_n past_both past_m : List Monomial) → List Monomial

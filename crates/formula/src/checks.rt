@@ -1,33 +1,35 @@
 //! The checks of a formula: its length, its coefficients, its terms.
 ghost use Rattle.std.specs.Prelude.{◌≡◌};
-ghost use Rattle.formula.specs.Formula.{checked, coded, falling, falling_after, is_before, is_coefficient};
+ghost use Rattle.formula.specs.Formula.{checked, coded, falling, is_before, is_coefficient};
 ghost use Rattle.formula.specs.Laws.{FormulaLaws};
 
+use crate::PolynomialRing;
 use crate::laws::formula_laws;
 use refusal::Refusal;
 use ring::Ring;
-use std::cmp::Ordering;
 use term::{Monomial, Order};
 
 /// The largest number of monomials in a formula.
 pub const MAX_MONOMIALS: usize = 64;
 
-/// Whether a list of monomials is a formula. It refuses a list of more than 64 monomials, then a coefficient that is 0 or no code, then terms that do not fall.
-pub fn check<R: Ring, O: Order>(ring: &R, order: &O, formula: &[Monomial]) -> Result<(), Refusal>
-    ensures value { result ≡ checked (R.Ring.meaning ring.now) (O.Order.meaning order.now) formula.now }
-    ensures laws { FormulaLaws (R.Ring.meaning ring.now) (O.Order.meaning order.now) }
-{
-    formula_laws(ring, order);
-    if formula.len() > MAX_MONOMIALS {
-        return Err(Refusal::TooManyMonomials);
+impl<R: Ring, O: Order> PolynomialRing<R, O> {
+    /// Whether a list of monomials is a formula. It refuses a list of more than 64 monomials, then a coefficient that is 0 or no code, then terms that do not fall.
+    pub fn check(&self, formula: &[Monomial]) -> Result<(), Refusal>
+        ensures value { result ≡ checked (R.Ring.meaning self.now.ring) (O.Order.meaning self.now.order) formula.now }
+        ensures laws { FormulaLaws (R.Ring.meaning self.now.ring) (O.Order.meaning self.now.order) }
+    {
+        formula_laws(self);
+        if formula.len() > MAX_MONOMIALS {
+            return Err(Refusal::TooManyMonomials);
+        }
+        if !coded(&self.ring, formula) {
+            return Err(Refusal::CoefficientOutOfRange);
+        }
+        if !falling(&self.order, formula) {
+            return Err(Refusal::TermsNotFalling);
+        }
+        Ok(())
     }
-    if !coded(ring, formula) {
-        return Err(Refusal::CoefficientOutOfRange);
-    }
-    if !falling(order, formula) {
-        return Err(Refusal::TermsNotFalling);
-    }
-    Ok(())
 }
 
 /// Whether a number is a coefficient: not 0, and below the size of the ring.
@@ -41,41 +43,21 @@ fn is_coefficient<R: Ring>(ring: &R, code: u16) -> bool
 fn coded<R: Ring>(ring: &R, formula: &[Monomial]) -> bool
     ensures { result ≡ coded (R.Ring.meaning ring.now) formula.now }
 {
-    for m in formula {
-        if !is_coefficient(ring, m.coefficient()) {
-            return false;
-        }
-    }
-    true
+    formula
+        .iter()
+        .all(|m| is_coefficient(ring, m.coefficient()))
 }
 
 /// Whether the terms fall strictly.
 fn falling<O: Order>(order: &O, formula: &[Monomial]) -> bool
     ensures { result ≡ falling (O.Order.meaning order.now) formula.now }
 {
-    match formula {
-        [] => true,
-        [head, rest @ ..] => falling_after(order, *head, rest),
-    }
-}
-
-/// Whether the terms of a list fall strictly after that of a monomial.
-fn falling_after<O: Order>(order: &O, head: Monomial, rest: &[Monomial]) -> bool
-    ensures { result ≡ falling_after (O.Order.meaning order.now) head rest.now }
-{
-    let mut last = head;
-    for m in rest {
-        if !is_before(order, *m, last) {
-            return false;
-        }
-        last = *m;
-    }
-    true
+    formula.is_sorted_by(|m, n| is_before(order, *n, *m))
 }
 
 /// Whether the term of a is before the term of b.
 fn is_before<O: Order>(order: &O, a: Monomial, b: Monomial) -> bool
     ensures { result ≡ is_before (O.Order.meaning order.now) a b }
 {
-    order.compare(a, b) == Ordering::Less
+    order.compare(a, b).is_lt()
 }

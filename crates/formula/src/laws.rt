@@ -2,17 +2,18 @@
 ghost use Rattle.formula.specs.Laws.{AdditionLaw, FormulaLaws};
 ghost use Rattle.formula.specs.Text.{TextReadings};
 
+use crate::PolynomialRing;
 use ring::Ring;
 use term::Order;
 
 /// What the check grants, and what formulas are as polynomials.
-pub(crate) fn formula_laws<R: Ring, O: Order>(ring: &R, order: &O)
-    ensures { FormulaLaws (R.Ring.meaning ring.now) (O.Order.meaning order.now) }
+pub(crate) fn formula_laws<R: Ring, O: Order>(polynomials: &PolynomialRing<R, O>)
+    ensures { FormulaLaws (R.Ring.meaning polynomials.now.ring) (O.Order.meaning polynomials.now.order) }
 {}
 
 /// What a sum is as a polynomial.
-pub(crate) fn addition_law<R: Ring, O: Order>(ring: &R, order: &O)
-    ensures { AdditionLaw (R.Ring.meaning ring.now) (O.Order.meaning order.now) }
+pub(crate) fn addition_law<R: Ring, O: Order>(polynomials: &PolynomialRing<R, O>)
+    ensures { AdditionLaw (R.Ring.meaning polynomials.now.ring) (O.Order.meaning polynomials.now.order) }
 {}
 
 /// Some texts.

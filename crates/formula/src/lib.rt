@@ -2,16 +2,16 @@
 #![tactic(auto)]
 
 mod checks;
-mod choice;
 mod laws;
+mod polynomial_ring;
 mod row;
 mod rows;
 mod sum;
 mod text;
 mod working;
 
-pub use checks::{MAX_MONOMIALS, check};
+pub use checks::MAX_MONOMIALS;
+pub use polynomial_ring::PolynomialRing;
 pub use row::Row;
-pub use sum::add_step;
 pub use text::FormulaText;
 pub use working::WorkingFormula;

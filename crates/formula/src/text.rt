@@ -17,19 +17,6 @@ struct Power {
     exponent: u8,
 }
 
-impl Power {
-    /// The power that follows.
-    fn next(self, letter: char, exponent: u8) -> Power
-        ensures { result ≡ record { after = self.after || nat_lt 0 self.exponent; letter = letter; exponent = exponent } }
-    {
-        Power {
-            after: self.after || 0 < self.exponent,
-            letter,
-            exponent,
-        }
-    }
-}
-
 impl fmt::Display for Power {
     ghost output = { λ p. Some (power_text p.after p.letter p.exponent) };
 
@@ -57,18 +44,17 @@ impl fmt::Display for Powers {
     ghost output = { λ p. Some (powers_text p.after 97 (exponents (term p.monomial))) };
 
     fn fmt<W: fmt::Write>(&self, f: &mut fmt::Formatter<W>) -> fmt::Result {
-        let exponents = self.monomial.exponents();
-        let a = Power {
-            after: self.after,
-            letter: 'a',
-            exponent: exponents[0],
-        };
-        let b = a.next('b', exponents[1]);
-        let c = b.next('c', exponents[2]);
-        let d = c.next('d', exponents[3]);
-        let e = d.next('e', exponents[4]);
-        let last = e.next('f', exponents[5]);
-        write!(f, "{a}{b}{c}{d}{e}{last}")
+        let mut after = self.after;
+        for (letter, exponent) in ('a'..='f').zip(self.monomial.exponents()) {
+            let power = Power {
+                after,
+                letter,
+                exponent,
+            };
+            write!(f, "{power}")?;
+            after |= 0 < exponent;
+        }
+        Ok(())
     }
 }
 

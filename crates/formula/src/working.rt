@@ -1,15 +1,15 @@
 //! A formula in memory, to which steps are added.
-ghost use Rattle.std.specs.Prelude.{◌≡◌, ◌≤◌, length};
+ghost use Rattle.std.specs.Prelude.{◌≤◌, length};
 
 use crate::MAX_MONOMIALS;
+use arrayvec::ArrayVec;
 use term::Monomial;
 
 mod methods;
 
-/// Memory for 64 monomials, of which the first `len` are the formula that it holds.
+/// Memory for 64 monomials, which holds a formula.
 #[derive(Drop)]
 pub struct WorkingFormula {
-    items: [Monomial; MAX_MONOMIALS],
-    len: usize,
-    ghost few: { (len ≤ 64) × (length items ≡ 64) },
+    monomials: ArrayVec<Monomial, MAX_MONOMIALS>,
+    ghost few: { length monomials.items ≤ 64 },
 }

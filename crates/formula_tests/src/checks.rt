@@ -2,6 +2,7 @@
 use crate::model::{Counters, Model, packed_list};
 use crate::plain::{Plain, Rule};
 use crate::random::Random;
+use crate::trial::Trial;
 use formula::WorkingFormula;
 use refusal::Refusal;
 use ring::Ring;
@@ -10,46 +11,33 @@ use std::process::Abort;
 use std::test::*;
 use term::Order;
 
-/// The number of an answer, 0 where it is granted.
-pub(crate) fn number(answer: Result<(), Refusal>) -> u8 {
-    match answer {
-        Ok(()) => 0,
-        Err(refusal) => refusal.number(),
-    }
-}
+/// What a call answers that gives nothing.
+pub(crate) type Answer = Result<(), Refusal>;
 
 /// Whether every code is a coefficient.
 fn coded(counters: Counters, list: &[Plain]) -> bool {
-    for m in list {
-        if m.code == 0 || m.code >= counters.size() {
-            return false;
-        }
-    }
-    true
+    list.iter().all(|m| m.code != 0 && m.code < counters.size())
 }
 
 /// Whether each term is before every one in front of it.
 fn falling(rule: Rule, list: &[Plain]) -> bool {
-    for k in 0..list.len() {
-        for i in 0..k {
-            if !rule.is_before(list[k].term, list[i].term) {
-                return false;
-            }
-        }
-    }
-    true
+    list.iter().enumerate().all(|(k, m)| {
+        list.iter()
+            .take(k)
+            .all(|earlier| rule.is_before(m.term, earlier.term))
+    })
 }
 
 /// What the checks of a list are to answer.
-fn verdict(model: Model, list: &[Plain]) -> u8 {
+fn verdict(model: Model, list: &[Plain]) -> Answer {
     if list.len() > 64 {
-        2
+        Err(Refusal::TooManyMonomials)
     } else if !coded(model.counters, list) {
-        3
+        Err(Refusal::CoefficientOutOfRange)
     } else if !falling(model.rule, list) {
-        4
+        Err(Refusal::TermsNotFalling)
     } else {
-        0
+        Ok(())
     }
 }
 
@@ -74,40 +62,21 @@ fn spoiled(
     let fault = random.below(5);
     let place = random.below((list.len() & 0xff) as u32) as usize;
     let mut out = Vec::new(heap);
-    for k in 0..list.len() {
+    for (k, m) in list.iter().enumerate() {
         if k == place {
-            out.push(faulty(list[k], fault, size))?;
+            out.push(faulty(*m, fault, size))?;
         }
         if k != place || fault == 4 {
-            out.push(list[k])?;
+            out.push(*m)?;
         }
     }
     Ok(out)
 }
 
-/// Compares what the checks answer with what they are to answer, and gives that; above 64 monomials memory refuses the list too.
-pub(crate) fn check_agrees<R: Ring, O: Order>(
-    rt: &impl Abort,
-    ring: &R,
-    order: &O,
-    model: Model,
-    list: &[Plain],
-    heap: Global,
-) -> Result<u8, Fail> {
-    let packed = packed_list(list, heap)?;
-    let answer = number(formula::check(ring, order, packed.as_slice()));
-    let is_held = WorkingFormula::holding(packed.as_slice()).is_ok();
-    assert_eq!(rt;
-        (answer, is_held),
-        (verdict(model, list), list.len() <= 64),
-        "check, {model:?}"
-    );
-    Ok(answer)
-}
-
-/// A set of answers with one more.
-pub(crate) fn with_answer(seen: u32, answer: u8) -> u32 {
-    seen | 1u32.wrapping_shl(answer as u32)
+/// A set of the numbers of answers, 0 for one that is granted, with one more.
+pub(crate) fn with_answer(seen: u32, answer: Answer) -> u32 {
+    let number = answer.err().map_or(0, Refusal::number);
+    seen | 1u32.wrapping_shl(number.into())
 }
 
 /// A random formula of up to 70 monomials, with no fault, one or two.
@@ -119,25 +88,34 @@ fn random_list(model: Model, random: &mut Random, heap: Global) -> Result<Vec<Pl
     Ok(list)
 }
 
-/// Compares the checks on random lists; each answer is to come.
-pub(crate) fn checks_agree<R: Ring, O: Order>(
-    rt: &impl Abort,
-    ring: &R,
-    order: &O,
-    model: Model,
-    random: &mut Random,
-    heap: Global,
-) -> Result<(), Fail> {
-    let mut seen = 0;
-    for _ in 0..1_000u32 {
-        let list = random_list(model, random, heap)?;
-        let answer = check_agrees(rt, ring, order, model, list.as_slice(), heap)?;
-        seen = with_answer(seen, answer);
+impl<R: Ring, O: Order, A: Abort> Trial<'_, R, O, A> {
+    /// Compares what the checks answer with what they are to answer, and gives that; above 64 monomials memory refuses the list too.
+    pub(crate) fn check_agrees(&self, list: &[Plain]) -> Result<Answer, Fail> {
+        let model = self.model;
+        let packed = packed_list(list, self.heap)?;
+        let answer = self.polynomials.check(packed.as_slice());
+        let is_held = WorkingFormula::holding(packed.as_slice()).is_ok();
+        assert_eq!(self.rt;
+            (answer, is_held),
+            (verdict(model, list), list.len() <= 64),
+            "check, {model:?}"
+        );
+        Ok(answer)
     }
-    assert_eq!(rt;
-        seen,
-        0b1_1101,
-        "granted, 2, 3 and 4 are to come, {model:?}"
-    );
-    Ok(())
+
+    /// Compares the checks on random lists; each answer is to come.
+    pub(crate) fn checks_agree(&self, random: &mut Random) -> Result<(), Fail> {
+        let model = self.model;
+        let mut seen = 0;
+        for _ in 0..1_000u32 {
+            let list = random_list(model, random, self.heap)?;
+            seen = with_answer(seen, self.check_agrees(list.as_slice())?);
+        }
+        assert_eq!(self.rt;
+            seen,
+            0b1_1101,
+            "granted, 2, 3 and 4 are to come, {model:?}"
+        );
+        Ok(())
+    }
 }

@@ -1,9 +1,9 @@
 //! Random formulas over residue rings and a pair, under each order.
-use crate::checks::checks_agree;
 use crate::model::{Counters, Model};
 use crate::plain::{Below, Plain, Rule};
 use crate::random::Random;
-use crate::sums::sums_agree;
+use crate::trial::Trial;
+use formula::PolynomialRing;
 use pair::PairRing;
 use residue::ResidueRing;
 use ring::Ring;
@@ -12,54 +12,46 @@ use std::process::Abort;
 use std::test::*;
 use term::{Lex, Monomial, Order, Reverse, Weight};
 
-/// Compares checks and sums over a ring and an order.
-fn formulas_agree<R: Ring, O: Order>(
-    rt: &impl Abort,
-    ring: &R,
-    order: &O,
-    model: Model,
-    heap: Global,
-) -> Result<(), Fail> {
-    let mut random = Random::new(2);
-    checks_agree(rt, ring, order, model, &mut random, heap)?;
-    sums_agree(rt, ring, order, model, &mut random, heap)
+impl<R: Ring, O: Order, A: Abort> Trial<'_, R, O, A> {
+    /// Compares checks and sums.
+    fn formulas_agree(&self) -> Result<(), Fail> {
+        let mut random = Random::new(2);
+        self.checks_agree(&mut random)?;
+        self.sums_agree(&mut random)
+    }
 }
 
 /// Compares checks and sums over a ring under each order.
-fn orders_agree<R: Ring>(
-    rt: &impl Abort,
-    ring: &R,
+fn orders_agree<R: Ring + Drop, A: Abort>(
+    rt: &A,
+    heap: Global,
+    ring: R,
     counters: Counters,
     weights: Monomial,
-    heap: Global,
 ) -> Result<(), Fail> {
-    let plain_weights = Plain::unpacked(weights).term;
-    let lex = Model {
-        counters,
-        rule: Rule::unweighted(Below::Lex),
-    };
-    let reverse = Model {
-        counters,
-        rule: Rule::unweighted(Below::Reverse),
-    };
-    let weight_lex = Model {
-        counters,
-        rule: Rule::new(plain_weights, Below::Lex),
-    };
-    let weight_reverse = Model {
-        counters,
-        rule: Rule::new(plain_weights, Below::Reverse),
-    };
-    formulas_agree(rt, ring, &Lex, lex, heap)?;
-    formulas_agree(rt, ring, &Reverse, reverse, heap)?;
-    formulas_agree(rt, ring, &Weight::new(weights, Lex), weight_lex, heap)?;
-    formulas_agree(
+    let plain_weights = Plain::from(weights).term;
+    let lex = Trial {
         rt,
-        ring,
-        &Weight::new(weights, Reverse),
-        weight_reverse,
         heap,
-    )
+        polynomials: PolynomialRing { ring, order: Lex },
+        model: Model {
+            counters,
+            rule: Rule::unweighted(Below::Lex),
+        },
+    };
+    lex.formulas_agree()?;
+    let reverse = lex.under(Reverse, Rule::unweighted(Below::Reverse));
+    reverse.formulas_agree()?;
+    let weight_lex = reverse.under(
+        Weight::new(weights, Lex),
+        Rule::new(plain_weights, Below::Lex),
+    );
+    weight_lex.formulas_agree()?;
+    let weight_reverse = weight_lex.under(
+        Weight::new(weights, Reverse),
+        Rule::new(plain_weights, Below::Reverse),
+    );
+    weight_reverse.formulas_agree()
 }
 
 #[test]
@@ -71,14 +63,9 @@ fn formulas_over_residue_rings(rt: HostRuntime) -> Result<(), Fail> {
         (65_536, 0x0005_0403_02ff_1234),
     ];
     for (n, bits) in cases {
+        let ring = ResidueRing::new(n)?;
         let counters = Counters { left: 1, right: n };
-        orders_agree(
-            &rt,
-            &ResidueRing::new(n)?,
-            counters,
-            Monomial { bits },
-            rt.alloc(),
-        )?;
+        orders_agree(&rt, rt.alloc(), ring, counters, Monomial { bits })?;
     }
     Ok(())
 }
@@ -93,5 +80,5 @@ fn formulas_over_a_pair(rt: HostRuntime) -> Result<(), Fail> {
     let weights = Monomial {
         bits: 0x0300_0000_0101_0000,
     };
-    orders_agree(&rt, &ring, counters, weights, rt.alloc())
+    orders_agree(&rt, rt.alloc(), ring, counters, weights)
 }

@@ -17,3 +17,5 @@ mod random;
 mod sums;
 #[cfg(test)]
 mod terms;
+#[cfg(test)]
+mod trial;

@@ -2,6 +2,7 @@
 use crate::plain::{Plain, Rule, Term};
 use crate::random::Random;
 use std::alloc::{AllocError, Global};
+use std::array;
 use term::Monomial;
 
 /// A ring as two counters side by side; the left one of a residue ring has one place only.
@@ -13,12 +14,12 @@ pub(crate) struct Counters {
 
 /// The rest of x by n, and 0 where n is 0.
 fn rest(x: u32, n: u32) -> u32 {
-    if n == 0 { 0 } else { x % n }
+    x.checked_rem(n).unwrap_or(0)
 }
 
 /// How often n goes into x, and 0 where n is 0.
 fn times_in(x: u32, n: u32) -> u32 {
-    if n == 0 { 0 } else { x / n }
+    x.checked_div(n).unwrap_or(0)
 }
 
 impl Counters {
@@ -70,36 +71,17 @@ pub(crate) struct Model {
 
 /// A random term with exponents below a bound.
 pub(crate) fn random_term(random: &mut Random, bound: u32) -> Term {
-    let mut term = [0; 6];
-    for k in 0..6 {
-        term[k] = random.below(bound);
-    }
-    term
+    array::from_fn(|_| random.below(bound))
 }
 
 impl Model {
-    /// Whether t comes after the terms so far, the last of which may be there, and is better than the best so far.
-    fn is_next(self, t: Term, last: Option<Term>, best: Option<Term>) -> bool {
-        let falls = match last {
-            Some(s) => self.rule.is_before(t, s),
-            None => true,
-        };
-        let greater = match best {
-            Some(s) => self.rule.is_before(s, t),
-            None => true,
-        };
-        falls && greater
-    }
-
     /// The greatest term of a list, of those before the last one so far.
     fn next_term(self, terms: &[Term], last: Option<Term>) -> Option<Term> {
-        let mut best = None;
-        for t in terms {
-            if self.is_next(*t, last, best) {
-                best = Some(*t);
-            }
-        }
-        best
+        terms
+            .iter()
+            .copied()
+            .filter(|t| last.is_none_or(|s| self.rule.is_before(*t, s)))
+            .max_by(|s, t| self.rule.compare(*s, *t))
     }
 
     /// The terms of a list once each, greatest first, with random coefficients.
@@ -111,7 +93,7 @@ impl Model {
     ) -> Result<Vec<Plain>, AllocError> {
         let mut formula = Vec::new(heap);
         let mut last = None;
-        for _ in 0..terms.len() {
+        for _ in terms {
             let Some(t) = self.next_term(terms, last) else {
                 return Ok(formula);
             };
@@ -139,9 +121,7 @@ impl Model {
 
 /// The packed monomials of a list, with 0 for one that does not pack.
 pub(crate) fn packed_list(list: &[Plain], heap: Global) -> Result<Vec<Monomial>, AllocError> {
-    let mut packed = Vec::new(heap);
-    for m in list {
-        packed.push(m.packed().unwrap_or(Monomial { bits: 0 }))?;
-    }
-    Ok(packed)
+    list.iter()
+        .map(|m| Monomial::try_from(*m).unwrap_or_default())
+        .collect(heap)
 }

@@ -1,5 +1,7 @@
 //! Terms, monomials and orders in plain words: six exponents in an array, packed and unpacked byte by byte.
+use std::array;
 use std::cmp::Ordering;
+use std::num::TryFromIntError;
 use term::Monomial;
 
 /// The exponents of a to f.
@@ -17,58 +19,50 @@ impl Plain {
     pub(crate) fn new(term: Term, code: u32) -> Plain {
         Plain { term, code }
     }
+}
 
-    /// A packed monomial taken apart: a byte for each exponent, then two for the code.
-    pub(crate) fn unpacked(m: Monomial) -> Plain {
+/// A packed monomial taken apart: a byte for each exponent, then two for the code.
+impl From<Monomial> for Plain {
+    fn from(m: Monomial) -> Plain {
         let [a, b, c, d, e, f, high, low] = m.bits.to_be_bytes();
         Plain {
-            term: [a as u32, b as u32, c as u32, d as u32, e as u32, f as u32],
-            code: u16::from_be_bytes([high, low]) as u32,
+            term: [a, b, c, d, e, f].map(u32::from),
+            code: u16::from_be_bytes([high, low]).into(),
         }
     }
+}
 
-    /// The packed monomial, or none where an exponent passes 255 or the code 65,535.
-    pub(crate) fn packed(self) -> Option<Monomial> {
-        let [a, b, c, d, e, f] = self.term;
-        let [high, low] = u16::try_from(self.code).ok()?.to_be_bytes();
+/// A monomial packed, or an error where an exponent passes 255 or the code 65,535.
+impl TryFrom<Plain> for Monomial {
+    type Error = TryFromIntError;
+
+    fn try_from(m: Plain) -> Result<Monomial, TryFromIntError> {
+        let [a, b, c, d, e, f] = m.term;
+        let [high, low] = u16::try_from(m.code)?.to_be_bytes();
         let bytes = [
-            byte(a)?,
-            byte(b)?,
-            byte(c)?,
-            byte(d)?,
-            byte(e)?,
-            byte(f)?,
+            u8::try_from(a)?,
+            u8::try_from(b)?,
+            u8::try_from(c)?,
+            u8::try_from(d)?,
+            u8::try_from(e)?,
+            u8::try_from(f)?,
             high,
             low,
         ];
-        Some(Monomial {
+        Ok(Monomial {
             bits: u64::from_be_bytes(bytes),
         })
     }
 }
 
-/// A number as a byte, if it is one.
-fn byte(x: u32) -> Option<u8> {
-    u8::try_from(x).ok()
-}
-
 /// The packed form of a term with code 0, or none where an exponent passes 255.
 pub(crate) fn bare(term: Term) -> Option<Monomial> {
-    Plain::new(term, 0).packed()
+    Monomial::try_from(Plain::new(term, 0)).ok()
 }
 
 /// The product of two terms: exponents are added.
 pub(crate) fn product(s: Term, t: Term) -> Term {
-    let [a, b, c, d, e, f] = s;
-    let [g, h, i, j, k, l] = t;
-    [
-        a.wrapping_add(g),
-        b.wrapping_add(h),
-        c.wrapping_add(i),
-        d.wrapping_add(j),
-        e.wrapping_add(k),
-        f.wrapping_add(l),
-    ]
+    array::from_fn(|k| s[k].wrapping_add(t[k]))
 }
 
 /// The term s by the term t: exponents are subtracted, and there is none where one of t is larger.
@@ -87,18 +81,17 @@ pub(crate) fn quotient(s: Term, t: Term) -> Option<Term> {
 
 /// The least common multiple of two terms: the larger exponent of each register.
 pub(crate) fn lcm(s: Term, t: Term) -> Term {
-    let [a, b, c, d, e, f] = s;
-    let [g, h, i, j, k, l] = t;
-    [a.max(g), b.max(h), c.max(i), d.max(j), e.max(k), f.max(l)]
+    array::from_fn(|k| s[k].max(t[k]))
 }
 
 /// The sum of exponent times weight.
 pub(crate) fn weighted(weights: Term, t: Term) -> u32 {
-    let mut sum = 0u32;
-    for k in 0..6 {
-        sum = sum.wrapping_add(weights[k].wrapping_mul(t[k]));
-    }
-    sum
+    weights
+        .iter()
+        .zip(&t)
+        .fold(0u32, |sum, (weight, exponent)| {
+            sum.wrapping_add(weight.wrapping_mul(*exponent))
+        })
 }
 
 /// The sum of the exponents.
@@ -106,24 +99,9 @@ pub(crate) fn degree(t: Term) -> u32 {
     weighted([1; 6], t)
 }
 
-/// How s stands to t by the first register that differs: the larger exponent is greater.
-fn by_first_register(s: Term, t: Term) -> Ordering {
-    for k in 0..6 {
-        if s[k] != t[k] {
-            return s[k].cmp(&t[k]);
-        }
-    }
-    Ordering::Equal
-}
-
 /// How s stands to t by the last register that differs: the smaller exponent is greater.
 fn by_last_register(s: Term, t: Term) -> Ordering {
-    for k in 1..7 {
-        if s[6 - k] != t[6 - k] {
-            return t[6 - k].cmp(&s[6 - k]);
-        }
-    }
-    Ordering::Equal
+    t.iter().rev().cmp(s.iter().rev())
 }
 
 /// The two orders that weights stand over.
@@ -151,22 +129,19 @@ impl Rule {
         Rule::new([0; 6], below)
     }
 
-    /// How s stands to t.
+    /// How s stands to t: by weights, then under lex by the first register that differs, under reverse by the degree and then the last register.
     pub(crate) fn compare(self, s: Term, t: Term) -> Ordering {
-        let left = weighted(self.weights, s);
-        let right = weighted(self.weights, t);
-        if left != right {
-            return left.cmp(&right);
-        }
-        match self.below {
-            Below::Lex => by_first_register(s, t),
-            Below::Reverse if degree(s) != degree(t) => degree(s).cmp(&degree(t)),
-            Below::Reverse => by_last_register(s, t),
-        }
+        let by_weights = weighted(self.weights, s).cmp(&weighted(self.weights, t));
+        by_weights.then_with(|| match self.below {
+            Below::Lex => s.cmp(&t),
+            Below::Reverse => degree(s)
+                .cmp(&degree(t))
+                .then_with(|| by_last_register(s, t)),
+        })
     }
 
     /// Whether s is before t.
     pub(crate) fn is_before(self, s: Term, t: Term) -> bool {
-        self.compare(s, t) == Ordering::Less
+        self.compare(s, t).is_lt()
     }
 }

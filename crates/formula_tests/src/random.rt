@@ -18,8 +18,8 @@ impl Random {
             .state
             .wrapping_mul(6_364_136_223_846_793_005)
             .wrapping_add(1_442_695_040_888_963_407);
-        let bits = (self.state / 0x1_0000_0000) as u32;
-        if bound == 0 { 0 } else { bits % bound }
+        let bits = (self.state >> 32) as u32;
+        bits.checked_rem(bound).unwrap_or(0)
     }
 
     /// A byte, often 0, 1, 2 or 255.

@@ -1,10 +1,12 @@
 //! Adding a step, against the sum worked out at each term.
-use crate::checks::{number, with_answer};
+use crate::checks::{Answer, with_answer};
 use crate::model::{Counters, Model, packed_list, random_term};
 use crate::plain;
 use crate::plain::{Plain, Term};
 use crate::random::Random;
-use formula::{WorkingFormula, add_step};
+use crate::trial::Trial;
+use formula::WorkingFormula;
+use refusal::Refusal;
 use ring::Ring;
 use std::alloc::Global;
 use std::process::Abort;
@@ -21,124 +23,87 @@ pub(crate) struct Parts<'a> {
 
 /// The coefficient of a list at a term.
 fn coefficient(counters: Counters, list: &[Plain], t: Term) -> u32 {
-    let mut code = 0;
-    for m in list {
-        if m.term == t {
-            code = counters.sum(code, m.code);
-        }
-    }
-    code
+    list.iter()
+        .filter(|m| m.term == t)
+        .fold(0, |code, m| counters.sum(code, m.code))
 }
 
 impl Parts<'_> {
+    /// The term of the product of the factor and a monomial.
+    fn product(&self, m: &Plain) -> Term {
+        plain::product(self.factor.term, m.term)
+    }
+
     /// The coefficient of the sum at a term.
     fn coefficient(&self, counters: Counters, t: Term) -> u32 {
-        let product = match plain::quotient(t, self.factor.term) {
-            Some(s) => counters.product(self.factor.code, coefficient(counters, self.line, s)),
-            None => 0,
-        };
+        let product = plain::quotient(t, self.factor.term).map_or(0, |s| {
+            counters.product(self.factor.code, coefficient(counters, self.line, s))
+        });
         counters.sum(coefficient(counters, self.formula, t), product)
     }
 
     /// Whether a term is in the formula.
     fn in_formula(&self, t: Term) -> bool {
-        for m in self.formula {
-            if m.term == t {
-                return true;
-            }
-        }
-        false
+        self.formula.iter().any(|m| m.term == t)
     }
 
     /// The number of terms at which the sum is not 0.
     fn count(&self, counters: Counters) -> usize {
-        let mut count = 0usize;
-        for m in self.formula {
-            if self.coefficient(counters, m.term) != 0 {
-                count = count.saturating_add(1);
-            }
-        }
-        for m in self.line {
-            let t = plain::product(self.factor.term, m.term);
-            if !self.in_formula(t) && self.coefficient(counters, t) != 0 {
-                count = count.saturating_add(1);
-            }
-        }
-        count
+        let in_formula = self
+            .formula
+            .iter()
+            .filter(|m| self.coefficient(counters, m.term) != 0)
+            .count();
+        let elsewhere = self
+            .line
+            .iter()
+            .map(|m| self.product(m))
+            .filter(|t| !self.in_formula(*t) && self.coefficient(counters, *t) != 0)
+            .count();
+        in_formula.saturating_add(elsewhere)
     }
 
     /// Whether an exponent of a product passes 255.
     fn passes_255(&self) -> bool {
-        for m in self.line {
-            if plain::bare(plain::product(self.factor.term, m.term)).is_none() {
-                return true;
-            }
-        }
-        false
+        self.line
+            .iter()
+            .any(|m| plain::bare(self.product(m)).is_none())
     }
 
     /// What adding the step is to answer.
-    fn verdict(&self, counters: Counters) -> u8 {
+    fn verdict(&self, counters: Counters) -> Answer {
         if self.passes_255() {
-            8
+            Err(Refusal::ExponentTooLarge)
         } else if self.count(counters) > 64 {
-            9
+            Err(Refusal::SumTooLong)
         } else {
-            0
+            Ok(())
         }
     }
-}
 
-/// Whether a monomial has the coefficient that the sum has at its term, one that is not 0, and a term before the last one, if there is one.
-fn is_next(model: Model, parts: &Parts<'_>, last: Option<Term>, m: Plain) -> bool {
-    let falls = match last {
-        Some(t) => model.rule.is_before(m.term, t),
-        None => true,
-    };
-    falls && m.code != 0 && m.code == parts.coefficient(model.counters, m.term)
-}
-
-/// Whether a list is the sum: as many monomials as the sum has terms, each the next one.
-fn is_sum(model: Model, parts: &Parts<'_>, sum: &[Monomial]) -> bool {
-    let mut last = None;
-    for m in sum {
-        let m = Plain::unpacked(*m);
-        if !is_next(model, parts, last, m) {
-            return false;
-        }
-        last = Some(m.term);
+    /// Whether a monomial has the coefficient that the sum has at its term, one that is not 0.
+    fn has(&self, counters: Counters, m: Plain) -> bool {
+        m.code != 0 && m.code == self.coefficient(counters, m.term)
     }
-    sum.len() == parts.count(model.counters)
+
+    /// Whether a list is the sum: as many monomials as the sum has terms, each with its coefficient and before the one in front of it.
+    fn is_sum(&self, model: Model, list: &[Monomial]) -> bool {
+        list.len() == self.count(model.counters)
+            && list
+                .iter()
+                .all(|m| self.has(model.counters, Plain::from(*m)))
+            && list.is_sorted_by(|m, n| {
+                model
+                    .rule
+                    .is_before(Plain::from(*n).term, Plain::from(*m).term)
+            })
+    }
 }
 
 /// A list in memory.
 fn held(list: &[Plain], heap: Global) -> Result<WorkingFormula, Fail> {
     let packed = packed_list(list, heap)?;
     Ok(WorkingFormula::holding(packed.as_slice())?)
-}
-
-/// Compares adding a step with the sum worked out at each term, or with the refusal that is due and memory as it was, and gives the answer.
-pub(crate) fn sum_agrees<R: Ring, O: Order>(
-    rt: &impl Abort,
-    ring: &R,
-    order: &O,
-    model: Model,
-    parts: &Parts<'_>,
-    heap: Global,
-) -> Result<u8, Fail> {
-    let before = held(parts.formula, heap)?;
-    let mut work = held(parts.formula, heap)?;
-    let line = held(parts.line, heap)?;
-    let factor = parts.factor.packed().unwrap_or(Monomial { bits: 0 });
-    let answer = number(add_step(ring, order, &mut work, factor, &line));
-    assert_eq!(rt; answer, parts.verdict(model.counters), "answer, {model:?}");
-    let right = if answer == 0 {
-        is_sum(model, parts, work.monomials())
-    } else {
-        work.monomials() == before.monomials()
-    };
-    assert!(rt; right, "what is held after {answer}, {model:?}");
-    Ok(answer)
 }
 
 /// A random factor with exponents below a bound, every other time the unit term.
@@ -161,37 +126,50 @@ fn random_bound(random: &mut Random) -> u32 {
     }
 }
 
-/// Compares adding random steps, every fourth time of the formula itself; each answer is to come.
-pub(crate) fn sums_agree<R: Ring, O: Order>(
-    rt: &impl Abort,
-    ring: &R,
-    order: &O,
-    model: Model,
-    random: &mut Random,
-    heap: Global,
-) -> Result<(), Fail> {
-    let mut seen = 0;
-    for _ in 0..400u32 {
-        let bound = random_bound(random);
-        let formula = model.random_formula(random, 64, bound, heap)?;
-        let other = model.random_formula(random, 64, bound, heap)?;
-        let factor = random_factor(random, model.counters.size(), bound);
-        let line = if random.below(4) == 0 {
-            formula.as_slice()
-        } else {
-            other.as_slice()
+impl<R: Ring, O: Order, A: Abort> Trial<'_, R, O, A> {
+    /// Compares adding a step with the sum worked out at each term, or with the refusal that is due and memory as it was, and gives the answer.
+    pub(crate) fn sum_agrees(&self, parts: &Parts<'_>) -> Result<Answer, Fail> {
+        let model = self.model;
+        let before = held(parts.formula, self.heap)?;
+        let mut work = held(parts.formula, self.heap)?;
+        let line = held(parts.line, self.heap)?;
+        let factor = Monomial::try_from(parts.factor).unwrap_or_default();
+        let answer = self.polynomials.add_step(&mut work, factor, &line);
+        assert_eq!(self.rt; answer, parts.verdict(model.counters), "answer, {model:?}");
+        let right = match answer {
+            Ok(()) => parts.is_sum(model, work.monomials()),
+            Err(_) => work.monomials() == before.monomials(),
         };
-        let parts = Parts {
-            formula: formula.as_slice(),
-            factor,
-            line,
-        };
-        seen = with_answer(seen, sum_agrees(rt, ring, order, model, &parts, heap)?);
+        assert!(self.rt; right, "what is held after {answer:?}, {model:?}");
+        Ok(answer)
     }
-    assert_eq!(rt;
-        seen,
-        0b11_0000_0001,
-        "granted, 8 and 9 are to come, {model:?}"
-    );
-    Ok(())
+
+    /// Compares adding random steps, every fourth time of the formula itself; each answer is to come.
+    pub(crate) fn sums_agree(&self, random: &mut Random) -> Result<(), Fail> {
+        let model = self.model;
+        let mut seen = 0;
+        for _ in 0..400u32 {
+            let bound = random_bound(random);
+            let formula = model.random_formula(random, 64, bound, self.heap)?;
+            let other = model.random_formula(random, 64, bound, self.heap)?;
+            let factor = random_factor(random, model.counters.size(), bound);
+            let line = if random.below(4) == 0 {
+                formula.as_slice()
+            } else {
+                other.as_slice()
+            };
+            let parts = Parts {
+                formula: formula.as_slice(),
+                factor,
+                line,
+            };
+            seen = with_answer(seen, self.sum_agrees(&parts)?);
+        }
+        assert_eq!(self.rt;
+            seen,
+            0b11_0000_0001,
+            "granted, 8 and 9 are to come, {model:?}"
+        );
+        Ok(())
+    }
 }

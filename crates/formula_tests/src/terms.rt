@@ -2,16 +2,13 @@
 use crate::plain;
 use crate::plain::{Below, Plain, Rule};
 use crate::random::Random;
+use std::array;
 use std::test::*;
 use term::{Lex, Monomial, Order, Reverse, Weight};
 
 /// A random packed number.
 fn random_number(random: &mut Random) -> [u8; 8] {
-    let mut bytes = [0; 8];
-    for k in 0..8 {
-        bytes[k] = random.byte();
-    }
-    bytes
+    array::from_fn(|_| random.byte())
 }
 
 /// A packed number that is like another one: two exponents exchanged, the code changed, or two exponents changed.
@@ -37,16 +34,16 @@ fn monomial(bytes: [u8; 8]) -> Monomial {
 fn parts_agree(bytes: [u8; 8], other: Monomial) -> bool {
     let m = monomial(bytes);
     let [a, b, c, d, e, f, high, low] = bytes;
-    let recoded = Plain::new(Plain::unpacked(m).term, Plain::unpacked(other).code);
+    let recoded = Plain::new(Plain::from(m).term, Plain::from(other).code);
     m.exponents() == [a, b, c, d, e, f]
         && m.coefficient() == u16::from_be_bytes([high, low])
-        && Some(m.with_coefficient(other.coefficient())) == recoded.packed()
+        && Some(m.with_coefficient(other.coefficient())) == Monomial::try_from(recoded).ok()
 }
 
 /// Whether degrees, products and lcms of two packed terms are those of plain ones.
 fn products_agree(m: Monomial, n: Monomial) -> bool {
-    let s = Plain::unpacked(m).term;
-    let t = Plain::unpacked(n).term;
+    let s = Plain::from(m).term;
+    let t = Plain::from(n).term;
     m.degree() == plain::degree(s) as u64
         && m.weighted_degree(n) == plain::weighted(t, s) as u64
         && m.product(n) == plain::bare(plain::product(s, t))
@@ -55,7 +52,7 @@ fn products_agree(m: Monomial, n: Monomial) -> bool {
 
 /// Whether a packed term is divided by another as plain ones are.
 fn quotients_agree(m: Monomial, n: Monomial) -> bool {
-    match plain::quotient(Plain::unpacked(m).term, Plain::unpacked(n).term) {
+    match plain::quotient(Plain::from(m).term, Plain::from(n).term) {
         Some(q) => n.divides(m) && m.quotient(n) == plain::bare(q),
         None => !n.divides(m) && m.quotient(n).is_none(),
     }
@@ -63,14 +60,14 @@ fn quotients_agree(m: Monomial, n: Monomial) -> bool {
 
 /// Whether an order compares two packed terms, either way round, as in plain words.
 fn order_agrees<O: Order>(order: &O, rule: Rule, m: Monomial, n: Monomial) -> bool {
-    let s = Plain::unpacked(m).term;
-    let t = Plain::unpacked(n).term;
+    let s = Plain::from(m).term;
+    let t = Plain::from(n).term;
     order.compare(m, n) == rule.compare(s, t) && order.compare(n, m) == rule.compare(t, s)
 }
 
 /// Whether lex, reverse and weight over both compare two packed terms as in plain words.
 fn orders_agree(weights: Monomial, m: Monomial, n: Monomial) -> bool {
-    let plain_weights = Plain::unpacked(weights).term;
+    let plain_weights = Plain::from(weights).term;
     let lex = Rule::new(plain_weights, Below::Lex);
     let reverse = Rule::new(plain_weights, Below::Reverse);
     order_agrees(&Lex, Rule::unweighted(Below::Lex), m, n)

@@ -1,11 +1,12 @@
 //! What is held, and putting more behind it.
-ghost use Rattle.std.specs.Prelude.{◌≡◌, ◌≤◌, [], ◌∷◌, length, Ok, nat_le};
+ghost use Rattle.std.specs.Prelude.{◌≡◌, [], ◌∷◌, length, Ok, nat_le};
 ghost use Rattle.refusal.specs.declared.Refusal.TheVariants.{TooManyMonomials};
 ghost use Rattle.formula.specs.Formula.{max_monomials, provided};
 ghost use Rattle.formula.specs.Held.{Appended, held, outcome};
 ghost use Rattle.formula.specs.Sum.{kept, nonzero};
 
-use crate::{MAX_MONOMIALS, WorkingFormula};
+use crate::WorkingFormula;
+use arrayvec::ArrayVec;
 use refusal::Refusal;
 use term::Monomial;
 
@@ -15,8 +16,7 @@ impl WorkingFormula {
         ensures { held result ≡ [] }
     {
         WorkingFormula {
-            items: [Monomial { bits: 0 }; MAX_MONOMIALS],
-            len: 0,
+            monomials: ArrayVec::new(),
         }
     }
 
@@ -24,46 +24,25 @@ impl WorkingFormula {
     pub fn holding(list: &[Monomial]) -> Result<WorkingFormula, Refusal>
         ensures { outcome result ≡ provided (nat_le (length list.now) max_monomials) TooManyMonomials (Ok list.now) }
     {
-        if list.len() > MAX_MONOMIALS {
-            return Err(Refusal::TooManyMonomials);
-        }
-        Ok(WorkingFormula::copy(list))
-    }
-
-    /// Memory that holds a list for which there is room.
-    fn copy(list: &[Monomial]) -> WorkingFormula
-        requires { length list.now ≤ 64 }
-        ensures { held result ≡ list.now }
-    {
-        let mut items = [Monomial { bits: 0 }; MAX_MONOMIALS];
-        for k in 0..list.len() {
-            items[k] = list[k];
-        }
-        WorkingFormula {
-            items,
-            len: list.len(),
-        }
+        let mut monomials = ArrayVec::new();
+        monomials
+            .try_extend_from_slice(list)
+            .map_err(|_| Refusal::TooManyMonomials)?;
+        Ok(WorkingFormula { monomials })
     }
 
     /// The formula that is held.
     pub fn monomials(&self) -> &[Monomial]
         ensures { result.now ≡ held self.now }
     {
-        let len = self.len;
-        &self.items[0..len]
+        self.monomials.as_slice()
     }
 
     /// Puts a monomial behind what is held. It refuses where there is no room.
     fn push(&mut self, m: Monomial) -> Result<(), Refusal>
         ensures { Appended (held self.old) (m ∷ []) result (held self.new) }
     {
-        if self.len >= MAX_MONOMIALS {
-            return Err(Refusal::SumTooLong);
-        }
-        let n = self.len;
-        self.items[n] = m;
-        self.len = n + 1;
-        Ok(())
+        self.monomials.try_push(m).map_err(|_| Refusal::SumTooLong)
     }
 
     /// Puts a monomial behind what is held, unless its coefficient is 0.

@@ -1,7 +1,11 @@
--- A list that is not empty is its first element and the rest.
-use Rattle.std.proofs.Common.{◌∙◌, arith, ltb-false}
-use Rattle.formula.proofs.Checking.{falling_split}
+-- The test of each two neighbours gives the answer.
+use Rattle.std.proofs.Common.{rules, tests}
+use Rattle.std.proofs.lemmas.Fn.{always_returns_same}
+use Rattle.formula.specs.Formula.{is_before}
+use Rattle.formula.proofs.Checking.{falling_by_neighbours}
 use Rattle.formula.proofs.checks.falling.Goals as goal
 
-pub returns-in-len1-up : goal.returns-in-len1-up
-returns-in-len1-up g c = c.falling_after.ensures ∙ falling_split (g.O.Order.meaning c.args.order.now) c.args.formula.now (omega (arith, ltb-false))
+pub returns : goal.returns
+returns g c =
+    let order = g.O.Order.meaning c.args.order.now in
+    falling_by_neighbours order c.args.formula.now c.is_sorted_by.result (c.is_sorted_by.ensures.cases (λ m n. is_before order n m) (always_returns_same _ _ _ (λ a r f k. search (rules, tests))))

@@ -3,4 +3,4 @@ use Rattle.formula.proofs.Adding.{addition_law}
 use Rattle.formula.proofs.laws.addition_law.Goals as goal
 
 pub returns : goal.returns
-returns g c = addition_law (g.R.Ring.meaning c.args.ring.now) (g.O.Order.meaning c.args.order.now)
+returns g c = addition_law (g.R.Ring.meaning c.args.polynomials.now.ring) (g.O.Order.meaning c.args.polynomials.now.order)

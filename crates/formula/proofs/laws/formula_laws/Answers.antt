@@ -3,4 +3,4 @@ use Rattle.formula.proofs.Polynomials.{formula_laws}
 use Rattle.formula.proofs.laws.formula_laws.Goals as goal
 
 pub returns : goal.returns
-returns g c = formula_laws (g.R.Ring.meaning c.args.ring.now) (g.O.Order.meaning c.args.order.now)
+returns g c = formula_laws (g.R.Ring.meaning c.args.polynomials.now.ring) (g.O.Order.meaning c.args.polynomials.now.order)

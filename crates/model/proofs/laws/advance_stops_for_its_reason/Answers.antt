@@ -3,4 +3,4 @@ use Rattle.model.proofs.Advances.{advance_law}
 use Rattle.model.proofs.laws.advance_stops_for_its_reason.Goals as goal
 
 pub returns : goal.returns
-returns g c = record { advance_law = advance_law (g.R.Ring.meaning c.args.ring.now) (g.O.Order.meaning c.args.order.now) }
+returns g c = record { advance_law = advance_law (g.R.Ring.meaning c.args.polynomials.now.ring) (g.O.Order.meaning c.args.polynomials.now.order) }

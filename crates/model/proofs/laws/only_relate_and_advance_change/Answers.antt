@@ -3,4 +3,4 @@ use Rattle.model.proofs.Theorems.{only_relate_and_advance_change}
 use Rattle.model.proofs.laws.only_relate_and_advance_change.Goals as goal
 
 pub returns : goal.returns
-returns g c = record { others_keep = only_relate_and_advance_change (g.R.Ring.meaning c.args.ring.now) (g.O.Order.meaning c.args.order.now) }
+returns g c = record { others_keep = only_relate_and_advance_change (g.R.Ring.meaning c.args.polynomials.now.ring) (g.O.Order.meaning c.args.polynomials.now.order) }

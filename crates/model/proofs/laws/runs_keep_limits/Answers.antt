@@ -3,4 +3,4 @@ use Rattle.model.proofs.Theorems.{run_limits}
 use Rattle.model.proofs.laws.runs_keep_limits.Goals as goal
 
 pub returns : goal.returns
-returns g c = record { limits = run_limits (g.R.Ring.meaning c.args.ring.now) (g.O.Order.meaning c.args.order.now) }
+returns g c = record { limits = run_limits (g.R.Ring.meaning c.args.polynomials.now.ring) (g.O.Order.meaning c.args.polynomials.now.order) }

@@ -1,12 +1,9 @@
 -- The loop goes along the list.
-use Rattle.std.proofs.Common.{◌+◌, ◌∷◌, get_or, drop, is_ok, Ok, ap}
+use Rattle.std.proofs.Common.{◌+◌, ◌∷◌, get_or, drop, is_ok, ap}
 use Rattle.formula.specs.Formula.{blank}
 use Rattle.formula.specs.Text.{monomial_text, rest_text}
-use Rattle.formula.proofs.Texts.{rest_text_all, rest_text_more, writing_all, writing_more, writing_none}
+use Rattle.formula.proofs.Texts.{rest_text_more, writing_more}
 use Rattle.formula.proofs.text.RestTextDisplay.fmt.Goals as goal
-
-pub loop-m-init : goal.loop-m-init
-loop-m-init g c = writing_none g.W.Write.write_str_gives c.args.f.now (rest_text c.args.self.now.one c.args.self.now.monomials.now)
 
 pub loop-m-preserved : goal.loop-m-preserved
 loop-m-preserved g c =
@@ -15,9 +12,3 @@ loop-m-preserved g c =
     let i = c.loop-m.m-index in
     writing_more g.W.Write.write_str_gives c.args.f.now c.loop-m.f c.write.new.self c.write.result (43 ∷ monomial_text one (get_or list i blank)) (rest_text one (drop (i + 1) list)) (rest_text one (drop i list)) (rest_text one list)
     (rest_text_more one list i c.loop-m-test.true) c.write.ensures.writes (ap is_ok c.in_ok-write.was) c.loop-m.invariant
-
-pub returns-clause-writes : goal.returns-clause-writes
-returns-clause-writes g c =
-    let one = c.args.self.now.one in
-    let list = c.args.self.now.monomials.now in
-    writing_all g.W.Write.write_str_gives c.args.f.now c.loop-m.f (Ok tt) (rest_text one (drop c.loop-m.m-index list)) (rest_text one list) (rest_text_all one list c.loop-m.m-index c.loop-m-test.false) c.loop-m.invariant
