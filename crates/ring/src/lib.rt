@@ -2,6 +2,8 @@
 #![tactic(auto)]
 
 mod derived;
+mod either_ring;
+mod ref_ring;
 mod ring;
 
 pub use derived::{difference, divides};

@@ -6,12 +6,12 @@ use crate::{Bezout, Code};
 
 /// A coefficient ring on the codes 0 to size − 1. Every method answers every number: one that is no code gets 0, for a quotient none.
 pub trait Ring {
-    /// The number of this kind of ring, 1 to 15.
+    /// The number of this kind of ring, 1 to 15: no enum, since other crates bring kinds of their own, and a sheet holds the number.
     const KIND: u8;
 
     ghost meaning: { Self → CoefficientRing };
 
-    /// The number of this kind of ring.
+    /// The number of this kind of ring, which a value of one of two rings knows and its type does not.
     fn kind_number(&self) -> u8
         ensures { result ≡ (meaning self.now).kind };
 

@@ -3,13 +3,14 @@ use Rattle.std.specs.Prelude.{ℕ, ◌*◌, Bool, cond, ◌&&◌, Ok, Err, Resul
 use Rattle.refusal.specs.declared.Refusal.{Refusal}
 use Rattle.refusal.specs.declared.Refusal.TheVariants.{RingSize}
 use Rattle.ring.specs.CoefficientRing.{CoefficientRing}
+use Rattle.ring.specs.declared.ring.Ring.{Ghosts}
 use Rattle.residue.specs.declared.modulus.ResidueRing.{ResidueRing}
 use Rattle.residue.specs.Residues.{residues}
 use Rattle.pair.specs.declared.PairRing.{PairRing}
 use Rattle.pair.specs.Paired.{paired}
-use Rattle.choice.specs.declared.Either.{Either}
-use Rattle.choice.specs.declared.Either.TheVariants.{Left, Right}
-use Rattle.choice.specs.Meaning.{ring_meaning}
+use Rattle.either.specs.declared.Either.{Either}
+use Rattle.either.specs.declared.Either.TheVariants.{Left, Right}
+use Rattle.ring.specs.EitherRing.{ring_meaning}
 use Rattle.ring_plan.specs.declared.RingPlan.{RingPlan}
 use Rattle.ring_plan.specs.declared.RingPlan.TheVariants as plan
 
@@ -17,25 +18,52 @@ use Rattle.ring_plan.specs.declared.RingPlan.TheVariants as plan
 abbrev pub residue_meaning : ResidueRing → CoefficientRing
 residue_meaning ring = residues ring.n ring.lawful.0 ring.lawful.1
 
-abbrev pub pair_meaning : PairRing ResidueRing ResidueRing → CoefficientRing
-pair_meaning ring = paired (residue_meaning ring.left) (residue_meaning ring.right)
+-- a pair of residue rings, and a pair of such a pair and a residue ring
+abbrev pub ResiduePair : Ghosts ResidueRing → Type 0
+ResiduePair R = PairRing ResidueRing ResidueRing R R
 
-abbrev pub triple_meaning : PairRing (PairRing ResidueRing ResidueRing) ResidueRing → CoefficientRing
-triple_meaning ring = paired (pair_meaning ring.left) (residue_meaning ring.right)
+abbrev pub ResidueTriple : (R : Ghosts ResidueRing) → Ghosts (ResiduePair R) → Type 0
+ResidueTriple R P = PairRing (ResiduePair R) ResidueRing P R
 
 -- a ring of a script: residues, a pair of residues, or a pair whose left part is such a pair
-abbrev pub AnyRing : Type 0
-AnyRing = Either ResidueRing (Either (PairRing ResidueRing ResidueRing) (PairRing (PairRing ResidueRing ResidueRing) ResidueRing))
+abbrev pub AnyRing : (R : Ghosts ResidueRing) → Ghosts (ResiduePair R) → Type 0
+AnyRing R P = Either ResidueRing (Either (ResiduePair R) (ResidueTriple R P))
 
--- what a ring of a script means: what the ring means that it holds
-abbrev pub meaning_of : AnyRing → CoefficientRing
-meaning_of ring = ring_meaning residue_meaning (ring_meaning pair_meaning triple_meaning) ring
+module _ {R : Ghosts ResidueRing} where
+  abbrev pub pair_meaning : ResiduePair R → CoefficientRing
+  pair_meaning ring = paired (residue_meaning ring.left) (residue_meaning ring.right)
 
--- the plan of a ring: the sizes of the residue rings that it is made of
-abbrev pub plan_of : AnyRing → RingPlan
-plan_of (Left ring) = plan.Residue ring.n
-plan_of (Right (Left ring)) = plan.Pair ring.left.n ring.right.n
-plan_of (Right (Right ring)) = plan.Triple ring.left.left.n ring.left.right.n ring.right.n
+  -- the plan of a pair: the sizes of the residue rings that it is made of
+  abbrev pub plan_of_pair : ResiduePair R → RingPlan
+  plan_of_pair ring = plan.Pair ring.left.n ring.right.n
+
+  -- its plan, and the number of its codes
+  abbrev pub described_pair : ResiduePair R → RingPlan × ℕ
+  described_pair ring = (plan_of_pair ring, (pair_meaning ring).size)
+
+  module _ {P : Ghosts (ResiduePair R)} where
+    abbrev pub triple_meaning : ResidueTriple R P → CoefficientRing
+    triple_meaning ring = paired (pair_meaning ring.left) (residue_meaning ring.right)
+
+    abbrev pub plan_of_triple : ResidueTriple R P → RingPlan
+    plan_of_triple ring = plan.Triple ring.left.left.n ring.left.right.n ring.right.n
+
+    abbrev pub described_triple : ResidueTriple R P → RingPlan × ℕ
+    described_triple ring = (plan_of_triple ring, (triple_meaning ring).size)
+
+    -- what a ring of a script means: what the ring means that it holds
+    abbrev pub meaning_of : AnyRing R P → CoefficientRing
+    meaning_of ring = ring_meaning residue_meaning (ring_meaning pair_meaning triple_meaning) ring
+
+    -- the plan of a ring: the sizes of the residue rings that it is made of
+    abbrev pub plan_of : AnyRing R P → RingPlan
+    plan_of (Left ring) = plan.Residue ring.n
+    plan_of (Right (Left ring)) = plan_of_pair ring
+    plan_of (Right (Right ring)) = plan_of_triple ring
+
+    -- a ring's plan, and the number of its codes
+    abbrev pub described : AnyRing R P → RingPlan × ℕ
+    described ring = (plan_of ring, (meaning_of ring).size)
 
 -- how many codes the ring of a plan has
 abbrev pub size_of : RingPlan → ℕ
@@ -56,10 +84,6 @@ abbrev pub possible : RingPlan → Bool
 possible (plan.Residue n) = ring_size n
 possible (plan.Pair p q) = pair_possible p q
 possible (plan.Triple p q r) = pair_possible p q && (ring_size r && nat_le (p * q * r) 65536)
-
--- a ring's plan, and the number of its codes
-abbrev pub described : AnyRing → RingPlan × ℕ
-described ring = (plan_of ring, (meaning_of ring).size)
 
 -- what a plan gets: a ring of that plan and size, or a refusal
 abbrev pub granted : RingPlan → Result (RingPlan × ℕ) Refusal

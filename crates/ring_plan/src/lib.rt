@@ -3,7 +3,7 @@
 
 mod making;
 
-use choice::Either;
+use either::Either;
 use pair::PairRing;
 use residue::ResidueRing;
 

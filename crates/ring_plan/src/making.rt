@@ -1,10 +1,9 @@
 //! Making the ring of a plan.
 ghost use Rattle.std.specs.Prelude.{◌≡◌};
-ghost use Rattle.choice.specs.declared.Either.TheVariants.{Left, Right};
-ghost use Rattle.ring_plan.specs.Rings.{described, granted, seen};
+ghost use Rattle.ring_plan.specs.Rings.{described, described_pair, described_triple, granted, seen};
 
 use crate::{AnyRing, ResiduePair, ResidueTriple, RingPlan};
-use choice::Either;
+use either::Either;
 use pair::PairRing;
 use refusal::Refusal;
 use residue::ResidueRing;
@@ -24,7 +23,7 @@ impl RingPlan {
 
 /// The pair of the residues of p and of q.
 fn residue_pair(p: u32, q: u32) -> Result<ResiduePair, Refusal>
-    ensures { seen (λ ring. described (Right (Left ring))) result ≡ granted (RingPlan.Pair p q) }
+    ensures { seen described_pair result ≡ granted (RingPlan.Pair p q) }
 {
     let left = ResidueRing::new(p)?;
     let right = ResidueRing::new(q)?;
@@ -33,7 +32,7 @@ fn residue_pair(p: u32, q: u32) -> Result<ResiduePair, Refusal>
 
 /// The pair of that pair and the residues of r.
 fn residue_triple(p: u32, q: u32, r: u32) -> Result<ResidueTriple, Refusal>
-    ensures { seen (λ ring. described (Right (Right ring))) result ≡ granted (RingPlan.Triple p q r) }
+    ensures { seen described_triple result ≡ granted (RingPlan.Triple p q r) }
 {
     let left = residue_pair(p, q)?;
     let right = ResidueRing::new(r)?;

@@ -1,3 +1,4 @@
 pub mod Packed
 pub mod Orders
 pub mod Laws
+pub mod EitherOrder

@@ -17,6 +17,7 @@ const WEIGHT_KIND: u8 = 3;
 #[derive(Clone, Copy, PartialEq, Eq, Debug)]
 pub struct Lex;
 
+/// As `Reverse`, it states its own law in each method, so no function serves both.
 impl Order for Lex {
     const KIND: u8 = 1;
 

@@ -43,7 +43,7 @@ impl Monomial {
         }
     }
 
-    /// The exponents of a to f.
+    /// The exponents of a to f, an array as the format has them.
     pub fn exponents(self) -> [u8; 6]
         ensures { result ≡ exponents (term_of self.bits) }
     {

@@ -8,12 +8,12 @@ use std::cmp::Ordering;
 
 /// A term order, which compares the terms of two monomials and leaves their coefficients aside.
 pub trait Order {
-    /// The number of this kind of order, 1 to 15.
+    /// The number of this kind of order, 1 to 15: no enum, since other crates bring kinds of their own, and a sheet holds the number.
     const KIND: u8;
 
     ghost meaning: { Self → TermOrder };
 
-    /// The number of this kind of order.
+    /// The number of this kind of order, which a value of one of two orders knows and its type does not.
     fn kind_number(&self) -> u8
         ensures { result ≡ (meaning self.now).kind };
 

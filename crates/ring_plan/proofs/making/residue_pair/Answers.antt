@@ -1,8 +1,5 @@
 -- The pair is made exactly where its plan is granted.
-use Rattle.std.proofs.Common.{ap, ◌∙◌}
 use Rattle.std.proofs.lemmas.Result.{err_from_is_err_and}
-use Rattle.choice.specs.declared.Either.TheVariants.{Left, Right}
-use Rattle.ring_plan.specs.Rings.{described, seen}
 use Rattle.ring_plan.proofs.Plans.{refused_left, refused_right, made_pair}
 use Rattle.ring_plan.proofs.making.residue_pair.Goals as goal
 
@@ -17,6 +14,4 @@ returns-in_err-right c =
     rw (p.1, p.2) (refused_right c.args.p c.args.q c.in_err-right.field-0.0 c.in_err-right.ensures)
 
 pub returns : goal.returns
-returns c =
-    ap (seen (λ ring. described (Right (Left ring)))) c.new-3.ensures ∙
-    made_pair c.in_ok-left.left c.in_ok-right.right c.args.p c.args.q c.in_ok-left.ensures c.in_ok-right.ensures
+returns c = made_pair c.in_ok-left.left c.in_ok-right.right c.args.p c.args.q _ c.in_ok-left.ensures c.in_ok-right.ensures c.new-3.ensures

@@ -1,8 +1,5 @@
 -- The pair of a pair is made exactly where its plan is granted.
-use Rattle.std.proofs.Common.{ap, ◌∙◌}
 use Rattle.std.proofs.lemmas.Result.{err_from_is_err_and}
-use Rattle.choice.specs.declared.Either.TheVariants.{Right}
-use Rattle.ring_plan.specs.Rings.{described, seen}
 use Rattle.ring_plan.proofs.Plans.{refused_pair, refused_last, made_triple}
 use Rattle.ring_plan.proofs.making.residue_triple.Goals as goal
 
@@ -21,5 +18,4 @@ returns-in_err-right c =
 pub returns : goal.returns
 returns c =
     let a = c.args in
-    ap (seen (λ ring. described (Right (Right ring)))) c.new-2.ensures ∙
-    made_triple c.in_ok-left.left c.in_ok-right.right a.p a.q a.r c.in_ok-left.ensures c.in_ok-right.ensures
+    made_triple c.in_ok-left.left c.in_ok-right.right a.p a.q a.r _ c.in_ok-left.ensures c.in_ok-right.ensures c.new-2.ensures
