@@ -1,4 +1,6 @@
 mod Decimals
 mod Hexadecimals
+mod Lines
 mod Listings
 mod Scans
+mod Takes

@@ -1,5 +1,5 @@
 -- Listing one monomial more, and the words of a formula.
-use Rattle.std.proofs.Common.{◌≡◌, ℕ, zero, suc, ◌+◌, ◌<◌, ◌≤◌, Bool, true, false, cond, List, [], ◌∷◌, ◌++◌, length, take, set, Some, None, Ok, Err, Option, Result, sym, refl, ap, ◌∙◌, arith}
+use Rattle.std.proofs.Common.{◌≡◌, ℕ, zero, suc, ◌<◌, ◌≤◌, Bool, true, false, cond, List, [], ◌∷◌, ◌++◌, length, take, Some, None, Ok, Err, Option, Result, sym, refl, ap, ◌∙◌, arith}
 use Rattle.term.specs.declared.monomial.Monomial.{Monomial}
 use Rattle.script.specs.declared.fault.Fault.{Fault}
 use Rattle.script.specs.Formulas.{in_front, is_byte, listed_from, monomials_in, part_word, unless_slash, words_as_monomials}
@@ -7,30 +7,23 @@ use Rattle.script.specs.Hexadecimal.{packed_in}
 use Rattle.script.specs.Listed.{max_listed}
 use Rattle.script.specs.Words.{after_word, word}
 use Rattle.script.proofs.Scans.{word_shorter}
-use Rattle.std.proofs.lemmas.List.{append_assoc, append-nil, length-append, length-take, length-take-le, take_all, take-append-le, take_more_set}
+use Rattle.script.proofs.Takes.{take_of_take}
+use Rattle.std.proofs.lemmas.List.{append_assoc, append-nil, length-append, take_all, take-append-le}
 
 -- where there is room for it
-pub listed_more : {X : Type 0} (most n : ℕ) (xs : List X) (x : X) → length xs ≡ most → n < most → take (n + 1) (set xs n x) ≡ take most (take n xs ++ (x ∷ []))
-listed_more most n xs x e h =
-    let z : length (take n xs ++ (x ∷ [])) ≤ most = simp (length-append, length-take) (omega arith) in
-    take_more_set xs n x (omega arith) ∙ sym (take_all most (take n xs ++ (x ∷ [])) z)
+pub listed_more : (xs : List Monomial) (m : Monomial) → length xs < 65 → xs ++ m ∷ [] ≡ take max_listed (xs ++ m ∷ [])
+listed_more xs m h =
+    let few : length (xs ++ m ∷ []) ≤ 65 = simp length-append (omega arith) in
+    sym (take_all 65 (xs ++ m ∷ []) few)
 
 -- where there is none
-pub listed_full : {X : Type 0} (most n : ℕ) (xs : List X) (x : X) → length xs ≡ most → n ≡ most → take n xs ≡ take most (take n xs ++ (x ∷ []))
-listed_full most n xs x e h =
-    let z : length (take n xs) ≡ n = length-take-le n xs (omega arith) in
-    sym (take-append-le most (take n xs) (x ∷ []) (omega arith) ∙ take_all most (take n xs) (omega arith))
+pub listed_full : (xs : List Monomial) (m : Monomial) → length xs ≡ 65 → xs ≡ take max_listed (xs ++ m ∷ [])
+listed_full xs m h = sym (take-append-le 65 xs (m ∷ []) (omega arith) ∙ take_all 65 xs (omega arith))
 
 -- what is listed already, with what is left, as many as are kept
 abbrev pub listed_with : List Monomial → Result (List Monomial) Fault → Result (List Monomial) Fault
 listed_with held (Ok f) = Ok (take max_listed (held ++ f))
 listed_with held (Err fault) = Err fault
-
--- what is cut off a list does not come back
-take_of_take : {X : Type 0} (n : ℕ) (xs ys : List X) → take n (take n xs ++ ys) ≡ take n (xs ++ ys)
-take_of_take n [] ys = ap (λ l. take n (l ++ ys)) (take_all n [] (omega arith))
-take_of_take zero (x ∷ xs) ys = refl
-take_of_take (suc n) (x ∷ xs) ys = ap (λ l. x ∷ l) (take_of_take n xs ys)
 
 -- a word of this part is a word
 part_word_is_word : (o : Option (List ℕ)) (w : List ℕ) → unless_slash o ≡ Some w → o ≡ Some w

@@ -1,22 +1,18 @@
 -- Looking through bytes, and cutting a line into words.
-use Rattle.std.proofs.Common.{◌≡◌, ℕ, ◌+◌, ◌-◌, ◌<◌, ◌≤◌, Bool, true, false, cond, eqb, List, [], ◌∷◌, length, get_or, take, drop, Some, None, sym, refl, ap, ◌∙◌, arith}
+use Rattle.std.proofs.Common.{◌≡◌, ℕ, ◌-◌, ◌<◌, ◌≤◌, Bool, true, false, not, ◌==◌, cond, eqb, List, [], ◌∷◌, length, get_or, take, drop, Some, None, sym, refl, ap, ◌∙◌, arith}
 use Rattle.std.proofs.lemmas.Bool.Decides.{nat_tests}
-use Rattle.std.proofs.lemmas.List.{at_drop_more, at_drop_all, length-drop, take_all}
+use Rattle.std.proofs.lemmas.List.{length-drop, take_all}
 use Rattle.std.proofs.lemmas.Bool.{eq-eqb, ne_eqb, cond-true, cond-false}
+use Rattle.std.specs.List.{position}
+use Rattle.std.specs.Option.{unwrap_or}
+use Rattle.std.proofs.lemmas.List.Sums.{prefix_len-le-length}
 use Rattle.script.specs.Words.{after_front, after_spaces, after_word, front, length_before, word}
 
-length_before_more : (stop i : ℕ) (xs : List ℕ) → i < length xs → length_before stop (drop i xs) ≡ cond (eqb (get_or xs i 0) stop) 0 (1 + length_before stop (drop (i + 1) xs))
-length_before_more stop i xs h = at_drop_more (length_before stop) xs i 0 h
-
--- at the byte itself, before it, and where it is not
-pub length_before_here : (stop i : ℕ) (xs : List ℕ) → i < length xs → get_or xs i 0 ≡ stop → length_before stop (drop i xs) ≡ 0
-length_before_here stop i xs h e = length_before_more stop i xs h ∙ cond-true _ _ _ (eq-eqb _ _ e)
-
-pub length_before_on : (stop i : ℕ) (xs : List ℕ) → i < length xs → (get_or xs i 0 ≡ stop → ⊥) → length_before stop (drop i xs) ≡ 1 + length_before stop (drop (i + 1) xs)
-length_before_on stop i xs h e = length_before_more stop i xs h ∙ cond-false _ _ _ (ne_eqb _ _ e)
-
-pub length_before_all : (stop i : ℕ) (xs : List ℕ) → length xs ≤ i → length_before stop (drop i xs) ≡ 0
-length_before_all stop i xs h = at_drop_all (length_before stop) xs i h
+-- the bytes before the first that is looked for, by where it is found
+pub length_before_first : (stop : ℕ) (xs : List ℕ) → unwrap_or (position (λ b. b == stop) xs) (length xs) ≡ length_before stop xs
+length_before_first stop xs =
+    let p = prefix_len-le-length (λ b. not (b == stop)) xs in
+    grind (arith, nat_tests)
 
 -- a space at the front, another byte, and nothing
 pub after_spaces_more : (xs : List ℕ) → 0 < length xs → get_or xs 0 0 ≡ 32 → after_spaces (take (length xs - 1) (drop 1 xs)) ≡ after_spaces xs

@@ -2,7 +2,7 @@
 use Rattle.std.specs.Prelude.{ℕ, zero, suc, Bool, cond, ◌&&◌, List, [], ◌∷◌, length, take, Some, None, Ok, Err, Option, Result, ◌==◌, slice_index}
 use Rattle.term.specs.declared.monomial.Monomial.{Monomial}
 use Rattle.script.specs.declared.fault.Fault.{Fault}
-use Rattle.script.specs.declared.fault.Fault.TheVariants.{MissingWord}
+use Rattle.script.specs.declared.fault.Fault.TheVariants.{MissingWord, ExtraWord}
 use Rattle.script.specs.Hexadecimal.{packed_in}
 use Rattle.script.specs.Listed.{max_listed}
 use Rattle.script.specs.Words.{after_word, word}
@@ -10,6 +10,11 @@ use Rattle.script.specs.Words.{after_word, word}
 -- whether a word is one byte
 abbrev pub is_byte : ℕ → List ℕ → Bool
 is_byte byte w = length w == 1 && slice_index w 0 == byte
+
+-- that a word is `/`
+abbrev pub slash_word : Option (List ℕ) → Result (Unit {0}) Fault
+slash_word None = Err MissingWord
+slash_word (Some w) = cond (is_byte 47 w) (Ok tt) (Err ExtraWord)
 
 -- a word, unless it is `/`
 abbrev pub unless_slash : Option (List ℕ) → Option (List ℕ)

@@ -14,6 +14,7 @@ pub(crate) fn decimal(word: &[u8], most: u32) -> Result<u32, Fault>
     if word.is_empty() {
         return Err(Fault::NotANumber);
     }
+    // By hand, since `parse` tells only the first error: a byte that is no digit comes before a number that is too large.
     let limit = u64::from(most);
     let mut value: u64 = 0;
     for byte in word {

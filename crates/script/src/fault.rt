@@ -20,7 +20,7 @@ pub enum Fault {
 }
 
 impl Fault {
-    /// The reason in words.
+    /// The reason in words, and not a derived text: what a derive writes promises nothing of it.
     fn reason(self) -> &'static str
         ensures { result.now ≡ text_of_fault self }
     {

@@ -1,17 +1,19 @@
-//! Scripts of commands: their lines, the words of a line, numbers, and the command that a line writes.
+//! Scripts of commands: their lines, the words of a line, and what a word writes.
 #![tactic(auto)]
 
-mod command;
 mod decimal;
 mod fault;
 mod hexadecimal;
 mod line;
 mod listing;
-mod parse;
+mod operation;
 mod scan;
+#[cfg(test)]
+mod tests;
 mod words;
 
-pub use command::{Addition, AnyOrder, Command, Operation, PlainOrder};
 pub use fault::Fault;
 pub use line::Line;
 pub use listing::Listing;
+pub use operation::{Addition, AnyOrder, Operation, PlainOrder};
+pub use words::Words;

@@ -7,10 +7,8 @@ pub(crate) fn length_before(bytes: &[u8], stop: u8) -> usize
     ensures value { result ≡ length_before stop bytes.now }
     ensures bound { result ≤ length bytes.now }
 {
-    for (i, byte) in bytes.iter().enumerate() {
-        if *byte == stop {
-            return i;
-        }
-    }
-    bytes.len()
+    bytes
+        .iter()
+        .position(|byte| *byte == stop)
+        .unwrap_or(bytes.len())
 }

@@ -3,9 +3,9 @@ ghost use Rattle.std.specs.Prelude.{◌≡◌};
 ghost use Rattle.std.specs.Option.{option_map, ok_or};
 ghost use Rattle.std.specs.Result.{result_map_both as mapped_result};
 ghost use Rattle.script.specs.declared.fault.Fault.TheVariants.{MissingWord};
-ghost use Rattle.script.specs.Formulas.{first_listed, formula_in, is_byte, monomials_in, part_word};
+ghost use Rattle.script.specs.Formulas.{first_listed, formula_in, is_byte, monomials_in, part_word, slash_word};
 ghost use Rattle.script.specs.Listed.{listed};
-ghost use Rattle.script.specs.Words.{after_spaces, after_word, end_of_words, number_of_word, packed_of_word, word};
+ghost use Rattle.script.specs.Words.{after_spaces, after_word, end_of_words, number_of_optional, number_of_word, packed_of_word, word};
 
 use crate::decimal::decimal;
 use crate::fault::Fault;
@@ -25,45 +25,39 @@ const ZERO: u8 = b'0';
 
 /// What is left to read of a line.
 #[derive(Drop)]
-pub(crate) struct Words<'a> {
+pub struct Words<'a> {
     rest: &'a [u8],
 }
 
 impl<'a> Words<'a> {
     /// All the words of a line.
-    pub(crate) fn new(line: &'a [u8]) -> Words<'a>
+    pub fn new(line: &'a [u8]) -> Words<'a>
         ensures { result.rest.now ≡ line.now }
     {
         Words { rest: line }
     }
 
     /// The next word, if there is one.
-    pub(crate) fn next(&mut self) -> Option<&'a [u8]>
+    pub fn next(&mut self) -> Option<&'a [u8]>
         ensures word { option_map (λ x. x.now) result ≡ word self.old.rest.now }
         ensures rest { self.new.rest.now ≡ after_word self.old.rest.now }
     {
         let start = after_spaces(self.rest);
         let (word, rest) = start.split_at(length_before(start, SPACE));
         self.rest = rest;
-        if word.is_empty() {
-            return None;
-        }
-        Some(word)
+        (!word.is_empty()).then_some(word)
     }
 
     /// The next word, which must be there.
-    pub(crate) fn required(&mut self) -> Result<&'a [u8], Fault>
+    pub fn required(&mut self) -> Result<&'a [u8], Fault>
         ensures word { mapped_result (λ x. x.now) (λ fault. fault) result ≡ ok_or (word self.old.rest.now) MissingWord }
         ensures rest { self.new.rest.now ≡ after_word self.old.rest.now }
     {
-        match self.next() {
-            Some(word) => Ok(word),
-            None => Err(Fault::MissingWord),
-        }
+        self.next().ok_or(Fault::MissingWord)
     }
 
     /// The next word as a decimal number.
-    pub(crate) fn number(&mut self) -> Result<u32, Fault>
+    pub fn number(&mut self) -> Result<u32, Fault>
         ensures number { result ≡ number_of_word 4294967295 (word self.old.rest.now) }
         ensures rest { self.new.rest.now ≡ after_word self.old.rest.now }
     {
@@ -71,15 +65,15 @@ impl<'a> Words<'a> {
     }
 
     /// The next word as a decimal number, if there is a next word.
-    pub(crate) fn optional_number(&mut self) -> Result<Option<u32>, Fault> {
-        match self.next() {
-            Some(word) => Ok(Some(decimal(word, u32::MAX)?)),
-            None => Ok(None),
-        }
+    pub fn optional_number(&mut self) -> Result<Option<u32>, Fault>
+        ensures number { result ≡ number_of_optional 4294967295 (word self.old.rest.now) }
+        ensures rest { self.new.rest.now ≡ after_word self.old.rest.now }
+    {
+        self.next().map(|word| decimal(word, u32::MAX)).transpose()
     }
 
     /// The next word as a code.
-    pub(crate) fn code(&mut self) -> Result<Code, Fault>
+    pub fn code(&mut self) -> Result<Code, Fault>
         ensures code { result ≡ number_of_word 65535 (word self.old.rest.now) }
         ensures rest { self.new.rest.now ≡ after_word self.old.rest.now }
     {
@@ -88,7 +82,7 @@ impl<'a> Words<'a> {
     }
 
     /// The next word as a packed monomial.
-    pub(crate) fn monomial(&mut self) -> Result<Monomial, Fault>
+    pub fn monomial(&mut self) -> Result<Monomial, Fault>
         ensures monomial { result ≡ packed_of_word (word self.old.rest.now) }
         ensures rest { self.new.rest.now ≡ after_word self.old.rest.now }
     {
@@ -96,12 +90,10 @@ impl<'a> Words<'a> {
     }
 
     /// The monomials of a formula, which goes on to the word `/` or the end of the line; the word `0` is the empty one.
-    pub(crate) fn formula(&mut self) -> Result<Listing, Fault>
+    pub fn formula(&mut self) -> Result<Listing, Fault>
         ensures { mapped_result listed (λ fault. fault) result ≡ first_listed (formula_in self.old.rest.now) }
     {
-        let Some(first) = self.ahead() else {
-            return Err(Fault::MissingWord);
-        };
+        let first = self.ahead().ok_or(Fault::MissingWord)?;
         if is_byte(first, ZERO) {
             let _ = self.next();
             return Ok(Listing::new());
@@ -126,23 +118,23 @@ impl<'a> Words<'a> {
         ensures { option_map (λ x. x.now) result ≡ part_word self.now.rest.now }
     {
         let mut words = Words { rest: self.rest };
-        let word = words.next()?;
-        if is_byte(word, SLASH) {
-            return None;
-        }
-        Some(word)
+        words.next().filter(|word| !is_byte(word, SLASH))
     }
 
     /// The word `/`, which stands between the parts of a line.
-    pub(crate) fn separator(&mut self) -> Result<(), Fault> {
-        match self.required()? {
-            b"/" => Ok(()),
-            _ => Err(Fault::ExtraWord),
+    pub fn separator(&mut self) -> Result<(), Fault>
+        ensures separator { result ≡ slash_word (word self.old.rest.now) }
+        ensures rest { self.new.rest.now ≡ after_word self.old.rest.now }
+    {
+        if is_byte(self.required()?, SLASH) {
+            Ok(())
+        } else {
+            Err(Fault::ExtraWord)
         }
     }
 
     /// That no word is left.
-    pub(crate) fn end(&mut self) -> Result<(), Fault>
+    pub fn end(&mut self) -> Result<(), Fault>
         ensures { result ≡ end_of_words (word self.old.rest.now) }
     {
         match self.next() {
@@ -167,5 +159,5 @@ fn after_spaces(bytes: &[u8]) -> &[u8]
 fn is_byte(word: &[u8], byte: u8) -> bool
     ensures { result ≡ is_byte byte word.now }
 {
-    word.len() == 1 && word[0] == byte
+    word == [byte].as_slice()
 }

@@ -1,5 +1,5 @@
 -- Each word is listed, and the first that is no monomial decides.
-use Rattle.std.proofs.Common.{◌≤◌, length, sym, ap, ◌∙◌, arith}
+use Rattle.std.proofs.Common.{[], ◌∷◌, ◌++◌, length, sym, ap, ◌∙◌, arith}
 use Rattle.std.specs.Option.{option_map}
 use Rattle.std.proofs.lemmas.List.{length-take}
 use Rattle.std.proofs.lemmas.Result.{err_from_is_err_and}
@@ -14,7 +14,7 @@ returns-in_err-packed c =
     let left = l.self.rest.now in
     let word = c.in-Some.word in
     let p = err_from_is_err_and c.from_residual.result c.from_residual.ensures.1 in
-    rw (p.1, p.2) (word_wrong (listed l.list) left word.now c.in_err-packed.field-0.0 (sym c.ahead.ensures ∙ ap (option_map (λ x. x.now)) c.in-Some.is) c.in_err-packed.ensures ∙ l.invariant)
+    rw (p.1, p.2) (word_wrong (listed l.list) left word.now c.in_err-packed.field-0.0 (sym c.ahead.ensures ∙ ap (option_map (λ x. x.now)) c.in-Some.is) c.in_err-packed.ensures ∙ l.invariant.1)
 
 pub loop-word-smaller : goal.loop-word-smaller
 loop-word-smaller c =
@@ -28,10 +28,11 @@ loop-word-preserved c =
     let l = c.loop-word in
     let left = l.self.rest.now in
     let more = word_more (listed l.list) left c.in-Some.word.now c.in_ok-packed.field-0 (sym c.ahead.ensures ∙ ap (option_map (λ x. x.now)) c.in-Some.is) c.in_ok-packed.ensures in
-    (λ i. listed_with (c.push.ensures i) (monomials_in (c.next.ensures.rest i))) ∙ more ∙ l.invariant
+    let kept = ap length c.push.ensures ∙ length-take 65 (listed l.list ++ c.in_ok-packed.field-0 ∷ []) in
+    (omega arith, (λ i. listed_with (c.push.ensures i) (monomials_in (c.next.ensures.rest i))) ∙ more ∙ l.invariant.1)
 
 pub returns : goal.returns
 returns c =
     let l = c.loop-word in
-    let few : length (listed l.list) ≤ 65 = simp length-take (omega arith) in
-    words_all (listed l.list) l.self.rest.now few (sym c.ahead.ensures ∙ ap (option_map (λ x. x.now)) c.in_default.is) ∙ l.invariant
+    let few = l.invariant.0 in
+    words_all (listed l.list) l.self.rest.now few (sym c.ahead.ensures ∙ ap (option_map (λ x. x.now)) c.in_default.is) ∙ l.invariant.1

@@ -1,8 +1,7 @@
-//! The commands of a script, with their words read.
+//! What commands ask for, with their words read.
 use crate::Listing;
-use choice::Either;
+use either::Either;
 use ring::Code;
-use ring_plan::RingPlan;
 use term::{Lex, Monomial, Reverse, Weight};
 
 /// An order that a weight can stand over.
@@ -25,21 +24,9 @@ pub enum Operation {
 }
 
 /// A sum that a script asks for: a formula plus a monomial times another.
-#[derive(Clone, Copy)]
+#[derive(Clone, Drop)]
 pub struct Addition {
     pub formula: Listing,
     pub factor: Monomial,
     pub line: Listing,
-}
-
-/// A command.
-#[derive(Clone, Copy)]
-pub enum Command {
-    Ring(RingPlan),
-    Order(AnyOrder),
-    Operation(Operation),
-    /// How the first term stands to the second.
-    Compare(Monomial, Monomial),
-    Show(Listing),
-    Add(Addition),
 }
