@@ -1,15 +1,9 @@
 -- What the ring's operations answer.
-use Rattle.std.specs.Prelude.{ℕ, Some, None, Option}
 use Rattle.ring.specs.CoefficientRing.{CoefficientRing}
-use Rattle.script.specs.declared.command.Operation.{Operation}
-use Rattle.script.specs.declared.command.Operation.TheVariants.{One, Sum, Negative, Product, Annihilator, Residue, Quotient, Gcd}
+use Rattle.script.specs.declared.operation.Operation.{Operation}
+use Rattle.script.specs.declared.operation.Operation.TheVariants.{One, Sum, Negative, Product, Annihilator, Residue, Quotient, Gcd}
 use Rattle.answer.specs.declared.Answer.{Answer}
 use Rattle.answer.specs.declared.Answer.TheVariants as answer
-
--- a quotient's answer
-abbrev pub quotient_answer : Option ℕ → Answer
-quotient_answer (Some q) = answer.Code q
-quotient_answer None = answer.NoQuotient
 
 -- what an operation answers in a ring
 abbrev pub operated : CoefficientRing → Operation → Answer
@@ -19,5 +13,5 @@ operated ring (Negative a) = answer.Code (ring.negative a)
 operated ring (Product a b) = answer.Code (ring.product a b)
 operated ring (Annihilator a) = answer.Code (ring.annihilator a)
 operated ring (Residue a b) = answer.Code (ring.residue a b)
-operated ring (Quotient a b) = quotient_answer (ring.quotient a b)
+operated ring (Quotient a b) = answer.Quotient (ring.quotient a b)
 operated ring (Gcd a b) = answer.Gcd (ring.gcd a b)

@@ -1,5 +1,5 @@
 -- What the program prints of an answer.
-use Rattle.std.specs.Prelude.{ℕ, List, ◌++◌, Ok, Err, codes, decimal, Result}
+use Rattle.std.specs.Prelude.{ℕ, List, ◌++◌, Some, None, Ok, Err, codes, decimal, Result}
 use Rattle.std.specs.declared.cmp.Ordering.TheVariants.{Less, Equal, Greater}
 use Rattle.refusal.specs.declared.Refusal.{Refusal}
 use Rattle.refusal.specs.Number.{number}
@@ -23,10 +23,15 @@ abbrev pub text_of_answer : Answer → List ℕ
 text_of_answer (answer.Ring size) = codes "ring " ++ decimal size
 text_of_answer (answer.Order kind) = codes "order " ++ decimal kind
 text_of_answer (answer.Code code) = decimal code
-text_of_answer answer.NoQuotient = codes "none"
+text_of_answer (answer.Quotient (Some q)) = decimal q
+text_of_answer (answer.Quotient None) = codes "none"
 text_of_answer (answer.Gcd b) = decimal b.g ++ (codes " " ++ (decimal b.u ++ (codes " " ++ decimal b.v)))
 text_of_answer (answer.Comparison Less) = codes "less"
 text_of_answer (answer.Comparison Equal) = codes "equal"
 text_of_answer (answer.Comparison Greater) = codes "greater"
 text_of_answer (answer.Formula one w) = text_of_formula one (Ok (held w))
-text_of_answer (answer.Refused refusal) = text_of_refusal refusal
+
+-- the line of an answer or of a refusal
+abbrev pub text_of_result : Result Answer Refusal → List ℕ
+text_of_result (Ok answer) = text_of_answer answer
+text_of_result (Err refusal) = text_of_refusal refusal

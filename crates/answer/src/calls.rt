@@ -2,15 +2,14 @@
 ghost use Rattle.std.specs.Prelude.{◌≡◌};
 ghost use Rattle.order.specs.TermOrder.{compared};
 ghost use Rattle.formula.specs.Formula.{term};
-ghost use Rattle.formula.specs.Held.{outcome};
 ghost use Rattle.script.specs.Listed.{listed};
 ghost use Rattle.answer.specs.Operated.{operated};
 ghost use Rattle.answer.specs.Formulas.{KeptSuffice, shown_formula, sum_of};
-ghost use Rattle.answer.specs.Texts.{text_of_answer, text_of_formula};
+ghost use Rattle.answer.specs.Texts.{text_of_formula, text_of_result};
 
 use crate::Answer;
 use crate::formulas::{kept_suffice, shown, sum};
-use formula::WorkingFormula;
+use formula::PolynomialRing;
 use refusal::Refusal;
 use ring::Ring;
 use script::{Addition, Listing, Operation};
@@ -27,10 +26,7 @@ pub fn operate<R: Ring>(ring: &R, operation: Operation) -> Answer
         Operation::Product(a, b) => Answer::Code(ring.product(a, b)),
         Operation::Annihilator(a) => Answer::Code(ring.annihilator(a)),
         Operation::Residue(a, b) => Answer::Code(ring.residue(a, b)),
-        Operation::Quotient(a, b) => match ring.quotient(a, b) {
-            Some(quotient) => Answer::Code(quotient),
-            None => Answer::NoQuotient,
-        },
+        Operation::Quotient(a, b) => Answer::Quotient(ring.quotient(a, b)),
         Operation::Gcd(a, b) => Answer::Gcd(ring.gcd(a, b)),
     }
 }
@@ -42,32 +38,30 @@ pub fn compare<O: Order>(order: &O, a: Monomial, b: Monomial) -> Answer
     Answer::Comparison(order.compare(a, b))
 }
 
-/// A list as a formula.
-pub fn show<R: Ring, O: Order>(ring: &R, order: &O, list: &Listing) -> Answer
-    ensures text { text_of_answer result ≡ text_of_formula (R.Ring.meaning ring.now).one (shown_formula (R.Ring.meaning ring.now) (O.Order.meaning order.now) (listed list.now)) }
-    ensures kept_suffice { KeptSuffice (R.Ring.meaning ring.now) (O.Order.meaning order.now) }
+/// A list as a formula; refused where it is none.
+pub fn show<R: Ring, O: Order>(
+    polynomials: &PolynomialRing<R, O>,
+    list: &Listing,
+) -> Result<Answer, Refusal>
+    ensures text { text_of_result result ≡ text_of_formula (R.Ring.meaning polynomials.now.ring).one (shown_formula (R.Ring.meaning polynomials.now.ring) (O.Order.meaning polynomials.now.order) (listed list.now)) }
+    ensures kept_suffice { KeptSuffice (R.Ring.meaning polynomials.now.ring) (O.Order.meaning polynomials.now.order) }
 {
-    kept_suffice(ring, order);
-    formula_answer(ring, shown(ring, order, list.monomials()))
+    kept_suffice(polynomials);
+    let formula = shown(polynomials, list.monomials())?;
+    Ok(Answer::Formula(polynomials.ring.one(), formula))
 }
 
-/// A formula plus a monomial times another.
-pub fn add<R: Ring, O: Order>(ring: &R, order: &O, addition: &Addition) -> Answer
-    ensures text { text_of_answer result ≡ text_of_formula (R.Ring.meaning ring.now).one (sum_of (R.Ring.meaning ring.now) (O.Order.meaning order.now) (listed addition.now.formula) addition.now.factor (listed addition.now.line)) }
-    ensures kept_suffice { KeptSuffice (R.Ring.meaning ring.now) (O.Order.meaning order.now) }
+/// A formula plus a monomial times another; refused where the sum is.
+pub fn add<R: Ring, O: Order>(
+    polynomials: &PolynomialRing<R, O>,
+    addition: &Addition,
+) -> Result<Answer, Refusal>
+    ensures text { text_of_result result ≡ text_of_formula (R.Ring.meaning polynomials.now.ring).one (sum_of (R.Ring.meaning polynomials.now.ring) (O.Order.meaning polynomials.now.order) (listed addition.now.formula) addition.now.factor (listed addition.now.line)) }
+    ensures kept_suffice { KeptSuffice (R.Ring.meaning polynomials.now.ring) (O.Order.meaning polynomials.now.order) }
 {
-    kept_suffice(ring, order);
+    kept_suffice(polynomials);
     let formula = addition.formula.monomials();
     let line = addition.line.monomials();
-    formula_answer(ring, sum(ring, order, formula, addition.factor, line))
-}
-
-/// A formula over a ring, or its refusal.
-fn formula_answer<R: Ring>(ring: &R, formula: Result<WorkingFormula, Refusal>) -> Answer
-    ensures { text_of_answer result ≡ text_of_formula (R.Ring.meaning ring.now).one (outcome formula) }
-{
-    match formula {
-        Ok(formula) => Answer::Formula(ring.one(), formula),
-        Err(refusal) => Answer::Refused(refusal),
-    }
+    let sum = sum(polynomials, formula, addition.factor, line)?;
+    Ok(Answer::Formula(polynomials.ring.one(), sum))
 }

@@ -3,41 +3,40 @@ ghost use Rattle.std.specs.Prelude.{◌≡◌};
 ghost use Rattle.formula.specs.Held.{outcome};
 ghost use Rattle.answer.specs.Formulas.{KeptSuffice, shown_formula, sum_of};
 
-use formula::{WorkingFormula, add_step, check};
+use formula::{PolynomialRing, WorkingFormula};
 use refusal::Refusal;
 use ring::Ring;
 use term::{Monomial, Order};
 
 /// The formula that a list is; refused where it is none.
 pub(crate) fn shown<R: Ring, O: Order>(
-    ring: &R,
-    order: &O,
+    polynomials: &PolynomialRing<R, O>,
     list: &[Monomial],
 ) -> Result<WorkingFormula, Refusal>
-    ensures { outcome result ≡ shown_formula (R.Ring.meaning ring.now) (O.Order.meaning order.now) list.now }
+    ensures { outcome result ≡ shown_formula (R.Ring.meaning polynomials.now.ring) (O.Order.meaning polynomials.now.order) list.now }
 {
-    check(ring, order, list)?;
+    polynomials.check(list)?;
     WorkingFormula::holding(list)
 }
 
-/// A formula plus factor times line. It refuses where the first list is no formula, then the second, then where the factor has no coefficient, then where the sum is refused.
+/// A formula plus factor times line, three parts of a command that are not together anywhere else. It refuses where the first list is no formula, then the second, then where the factor has no coefficient, then where the sum is refused.
 pub(crate) fn sum<R: Ring, O: Order>(
-    ring: &R,
-    order: &O,
+    polynomials: &PolynomialRing<R, O>,
     formula: &[Monomial],
     factor: Monomial,
     line: &[Monomial],
 ) -> Result<WorkingFormula, Refusal>
-    ensures { outcome result ≡ sum_of (R.Ring.meaning ring.now) (O.Order.meaning order.now) formula.now factor line.now }
+    ensures { outcome result ≡ sum_of (R.Ring.meaning polynomials.now.ring) (O.Order.meaning polynomials.now.order) formula.now factor line.now }
 {
-    let mut sum = shown(ring, order, formula)?;
-    let line = shown(ring, order, line)?;
-    check(ring, order, &[factor])?;
-    add_step(ring, order, &mut sum, factor, &line)?;
+    let mut sum = shown(polynomials, formula)?;
+    let line = shown(polynomials, line)?;
+    polynomials.check(&[factor])?;
+    polynomials.add_step(&mut sum, factor, &line)?;
     Ok(sum)
 }
 
 /// That the monomials which are kept of a list suffice.
-pub(crate) fn kept_suffice<R: Ring, O: Order>(ring: &R, order: &O)
-    ensures { KeptSuffice (R.Ring.meaning ring.now) (O.Order.meaning order.now) }
+#[tactic(auto, using(crate::proofs::Checks::kept_suffice))]
+pub(crate) fn kept_suffice<R: Ring, O: Order>(polynomials: &PolynomialRing<R, O>)
+    ensures { KeptSuffice (R.Ring.meaning polynomials.now.ring) (O.Order.meaning polynomials.now.order) }
 {}

@@ -7,11 +7,10 @@ mod text;
 
 pub use calls::{add, compare, operate, show};
 use formula::WorkingFormula;
-use refusal::Refusal;
 use ring::{Bezout, Code};
 use std::cmp::Ordering;
 
-/// What a command answers, one line of the output.
+/// What a command answers that is not refused, one line of the output.
 #[derive(Drop)]
 pub enum Answer {
     /// A new ring, by its number of codes.
@@ -19,12 +18,11 @@ pub enum Answer {
     /// A new order, by the number of its kind.
     Order(u8),
     Code(Code),
-    /// There is no quotient.
-    NoQuotient,
+    /// A quotient, if there is one.
+    Quotient(Option<Code>),
     Gcd(Bezout),
     /// How a term stands to another.
     Comparison(Ordering),
     /// A formula, with the ring's one, which its text leaves out.
     Formula(Code, WorkingFormula),
-    Refused(Refusal),
 }

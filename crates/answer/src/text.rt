@@ -15,8 +15,8 @@ impl fmt::Display for Answer {
         match self {
             Answer::Ring(size) => write!(f, "ring {size}"),
             Answer::Order(kind) => write!(f, "order {kind}"),
-            Answer::Code(code) => write!(f, "{code}"),
-            Answer::NoQuotient => write!(f, "none"),
+            Answer::Code(code) | Answer::Quotient(Some(code)) => write!(f, "{code}"),
+            Answer::Quotient(None) => write!(f, "none"),
             Answer::Gcd(Bezout { g, u, v }) => write!(f, "{g} {u} {v}"),
             Answer::Comparison(Ordering::Less) => write!(f, "less"),
             Answer::Comparison(Ordering::Equal) => write!(f, "equal"),
@@ -24,10 +24,6 @@ impl fmt::Display for Answer {
             Answer::Formula(one, formula) => {
                 let text = FormulaText::with_one(*one, formula.monomials());
                 write!(f, "formula {text}")
-            }
-            Answer::Refused(refusal) => {
-                let number = refusal.number();
-                write!(f, "refused {number}")
             }
         }
     }

@@ -1,7 +1,8 @@
 -- A list of lines as lines of the theory; a step of a missing line adds nothing.
-use Rattle.std.proofs.Common.{◌≡◌, ℕ, zero, suc, ◌<◌, List, [], ◌∷◌, length, refl, ap, ◌∙◌, ap₂, arith}
+use Rattle.std.proofs.Common.{◌≡◌, ℕ, ◌<◌, List, [], ◌∷◌, length, refl, ap, ◌∙◌, ap₂, arith}
 use native.Mathlib.Decide.{dec_lt}
 use Rattle.std.specs.List.{AllByRecursion}
+use Rattle.std.proofs.Math.ListN.{get_or-map}
 use Rattle.std.proofs.lemmas.List.{get_or_past}
 use Rattle.ring.specs.CoefficientRing.{CoefficientRing}
 use Rattle.order.specs.Term.{Term}
@@ -19,11 +20,6 @@ use Rattle.basis.proofs.Steps.{LineStep, combined}
 use Rattle.basis.proofs.Lows.{Lines, Low, value, step_product}
 use Rattle.basis.proofs.CriticalPolynomials.{head_code, at_head, after_head}
 use Rattle.basis.proofs.Combinations.{family, coded, at_sum_of_steps, steps_of_combination}
-
-numbered_polynomial : (lines : List Line) (k : ℕ) → numbered (polynomials lines) k ≡ (line_of lines k).polynomial
-numbered_polynomial [] k = refl
-numbered_polynomial (line ∷ lines) zero = refl
-numbered_polynomial (line ∷ lines) (suc k) = numbered_polynomial lines k
 
 module _ (ring : CoefficientRing) (order : TermOrder) (lines : List Line) (heads : (k : ℕ) → k < length lines → Headed ring order (line_of lines k)) where
   open code_ring ring use {sum as ◌+◌, product as ◌*◌}
@@ -61,7 +57,7 @@ module _ (ring : CoefficientRing) (order : TermOrder) (lines : List Line) (heads
   kept_steps (p ∷ σ) = kept_step p (dec_lt p.line (length lines)) (kept_steps σ)
 
   missing_line : (k : ℕ) → ¬ (k < length lines) → numbered (polynomials lines) k ≡ []
-  missing_line k n = numbered_polynomial lines k ∙ ap (λ l. l.polynomial) (get_or_past lines k (line_of [] 0) (omega arith))
+  missing_line k n = get_or-map (λ l. l.polynomial) lines k (line_of [] 0) ∙ ap (λ l. l.polynomial) (get_or_past lines k (line_of [] 0) (omega arith))
 
   -- a step of the zero polynomial adds nothing
   no_share : (p : LineStep (Code ring) Term ℕ) (x : Term) (rest : Code ring) → p.code * shifted (code_ring ring) six_terms p.term (at ring []) x + rest ≡ rest
@@ -74,7 +70,7 @@ module _ (ring : CoefficientRing) (order : TermOrder) (lines : List Line) (heads
     where
       which : (d : Dec (p.line < length lines)) → combined (code_ring ring) six_terms (family ring (polynomials lines)) σ x ≡ value all_lines (kept_steps σ) x
           → combined (code_ring ring) six_terms (family ring (polynomials lines)) (p ∷ σ) x ≡ value all_lines (kept_step p d (kept_steps σ)) x
-      which (yes h) e = ap₂ ◌+◌ (ap (λ f. p.code * shifted (code_ring ring) six_terms p.term (at ring f) x) (numbered_polynomial lines p.line)) e
+      which (yes h) e = ap₂ ◌+◌ (ap (λ f. p.code * shifted (code_ring ring) six_terms p.term (at ring f) x) (get_or-map (λ l. l.polynomial) lines p.line (line_of [] 0))) e
       which (no n) e = ap (λ f. p.code * shifted (code_ring ring) six_terms p.term (at ring f) x + combined (code_ring ring) six_terms (family ring (polynomials lines)) σ x) (missing_line p.line n)
           ∙ no_share p x (combined (code_ring ring) six_terms (family ring (polynomials lines)) σ x) ∙ e
 

@@ -8,6 +8,7 @@ use ring::Ring;
 use term::Order;
 
 /// Lines whose A- and S-polynomials are low, and whose heads cover where two heads meet, are a strong basis.
+#[tactic(auto, using(crate::proofs::Criteria::criterion_makes_basis))]
 pub fn criterion_makes_basis<R: Ring, O: Order>(polynomials: &PolynomialRing<R, O>)
     ensures { CriterionMakesBasis (R.Ring.meaning polynomials.now.ring) (O.Order.meaning polynomials.now.order) }
 {}
@@ -23,11 +24,13 @@ pub fn remainders_are_unique<R: Ring, O: Order>(polynomials: &PolynomialRing<R, 
 {}
 
 /// The head of a G-polynomial is the gcd at the lcm, and A- and S-polynomials lose their heads.
+#[tactic(auto, using(crate::proofs::CriticalPolynomials::critical_polynomials))]
 pub fn critical_polynomials<R: Ring, O: Order>(polynomials: &PolynomialRing<R, O>)
     ensures { CriticalPolynomials (R.Ring.meaning polynomials.now.ring) (O.Order.meaning polynomials.now.order) }
 {}
 
 /// A polynomial that is not zero has a head, and only one.
+#[tactic(auto, using(crate::proofs::Heads::one_head))]
 pub fn one_head<R: Ring, O: Order>(polynomials: &PolynomialRing<R, O>)
     ensures { OneHead (R.Ring.meaning polynomials.now.ring) (O.Order.meaning polynomials.now.order) }
 {}

@@ -7,6 +7,7 @@ use ring::Ring;
 use term::Order;
 
 /// What the check grants, and what formulas are as polynomials.
+#[tactic(auto, using(crate::proofs::Polynomials::formula_laws))]
 pub(crate) fn formula_laws<R: Ring, O: Order>(polynomials: &PolynomialRing<R, O>)
     ensures { FormulaLaws (R.Ring.meaning polynomials.now.ring) (O.Order.meaning polynomials.now.order) }
 {}
@@ -17,6 +18,7 @@ pub(crate) fn addition_law<R: Ring, O: Order>(polynomials: &PolynomialRing<R, O>
 {}
 
 /// Some texts.
+#[tactic(auto, using(crate::proofs::Texts::text_readings))]
 pub(crate) fn text_readings()
     ensures { TextReadings }
 {}

@@ -60,6 +60,7 @@ impl<R: Ring, O: Order> PolynomialRing<R, O> {
         ensures { Appended (held sum.old) (merged (R.Ring.meaning self.now.ring) (O.Order.meaning self.now.order) formula.now (multiplied (R.Ring.meaning self.now.ring) multiple.now.factor (M.Row.monomials multiple.now.line.now))) result (held sum.new) }
     {
         let mut rest = formula;
+        // By number, as a row is read: its monomials may be bytes of a sheet, of which there is no slice of monomials.
         for k in 0..multiple.length() {
             rest = self.put_product(rest, multiple.product(&self.ring, k), sum)?;
         }

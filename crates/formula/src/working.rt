@@ -7,7 +7,7 @@ use term::Monomial;
 
 mod methods;
 
-/// Memory for 64 monomials, which holds a formula.
+/// Memory for 64 monomials, which holds a formula. Its room is fixed, so that no call refuses for want of memory.
 #[derive(Drop)]
 pub struct WorkingFormula {
     monomials: ArrayVec<Monomial, MAX_MONOMIALS>,

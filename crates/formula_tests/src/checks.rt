@@ -41,7 +41,7 @@ fn verdict(model: Model, list: &[Plain]) -> Answer {
     }
 }
 
-/// A monomial with a fault: its code 0 or too large, or the least or the greatest term.
+/// A monomial with a fault, which a random number names: its code 0 or too large, or the least or the greatest term.
 fn faulty(m: Plain, fault: u32, size: u32) -> Plain {
     match fault {
         0 => Plain::new(m.term, 0),

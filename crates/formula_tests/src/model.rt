@@ -35,7 +35,7 @@ impl Counters {
             .wrapping_add(rest(right, self.right))
     }
 
-    /// The sum of two codes: both counters go on.
+    /// The sum of two codes: both counters go on. As the product it works on each counter, in words of its own.
     pub(crate) fn sum(self, a: u32, b: u32) -> u32 {
         let left = times_in(a, self.right).wrapping_add(times_in(b, self.right));
         let right = rest(a, self.right).wrapping_add(rest(b, self.right));
@@ -93,6 +93,7 @@ impl Model {
     ) -> Result<Vec<Plain>, AllocError> {
         let mut formula = Vec::new(heap);
         let mut last = None;
+        // As many turns as there are terms, since every loop is proved to end.
         for _ in terms {
             let Some(t) = self.next_term(terms, last) else {
                 return Ok(formula);

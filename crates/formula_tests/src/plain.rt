@@ -37,20 +37,10 @@ impl TryFrom<Plain> for Monomial {
     type Error = TryFromIntError;
 
     fn try_from(m: Plain) -> Result<Monomial, TryFromIntError> {
-        let [a, b, c, d, e, f] = m.term;
+        let [a, b, c, d, e, f] = m.term.try_map(u8::try_from)?;
         let [high, low] = u16::try_from(m.code)?.to_be_bytes();
-        let bytes = [
-            u8::try_from(a)?,
-            u8::try_from(b)?,
-            u8::try_from(c)?,
-            u8::try_from(d)?,
-            u8::try_from(e)?,
-            u8::try_from(f)?,
-            high,
-            low,
-        ];
         Ok(Monomial {
-            bits: u64::from_be_bytes(bytes),
+            bits: u64::from_be_bytes([a, b, c, d, e, f, high, low]),
         })
     }
 }
@@ -67,16 +57,7 @@ pub(crate) fn product(s: Term, t: Term) -> Term {
 
 /// The term s by the term t: exponents are subtracted, and there is none where one of t is larger.
 pub(crate) fn quotient(s: Term, t: Term) -> Option<Term> {
-    let [a, b, c, d, e, f] = s;
-    let [g, h, i, j, k, l] = t;
-    Some([
-        a.checked_sub(g)?,
-        b.checked_sub(h)?,
-        c.checked_sub(i)?,
-        d.checked_sub(j)?,
-        e.checked_sub(k)?,
-        f.checked_sub(l)?,
-    ])
+    array::try_from_fn(|k| s[k].checked_sub(t[k]).ok_or(())).ok()
 }
 
 /// The least common multiple of two terms: the larger exponent of each register.
@@ -111,7 +92,7 @@ pub(crate) enum Below {
     Reverse,
 }
 
-/// An order in plain words: weights, all of them 0 where there are none, and what decides a tie.
+/// An order in plain words: weights and what decides a tie. Weights that are all 0 leave every tie, as an order without weights does.
 #[derive(Clone, Copy, Debug)]
 pub(crate) struct Rule {
     pub(crate) weights: Term,

@@ -1,5 +1,6 @@
 -- Lines all of whose jobs are settled meet the criterion, so they are a strong basis.
-use Rattle.std.proofs.Common.{◌≡◌, ℕ, zero, suc, ◌+◌, ◌-◌, ◌*◌, ◌<◌, ◌≤◌, List, [], ◌∷◌, map, length, get_or, Some, sym, refl, ap, ◌∙◌, subst, ap₂, mul-le-mul, arith}
+use Rattle.std.proofs.Common.{◌≡◌, ℕ, suc, ◌+◌, ◌-◌, ◌*◌, ◌<◌, ◌≤◌, List, [], ◌∷◌, map, length, get_or, Some, sym, refl, ap, ◌∙◌, subst, ap₂, mul-le-mul, arith}
+use Rattle.std.proofs.Math.ListN.{get_or-map}
 use Rattle.std.specs.List.{AllByRecursion}
 use Rattle.std.proofs.lemmas.List.{length-map}
 use Rattle.ring.specs.CoefficientRing.{CoefficientRing, Multiple}
@@ -29,14 +30,9 @@ use Rattle.model.proofs.JobPolynomials.{Entry, a_under, all_of_taken, good_of, h
 use Rattle.model.proofs.Opposites.{opposite_term, worth_trail}
 use Rattle.model.proofs.Numbering.{job_a, job_g, job_s}
 
--- the lines of the theory
-abbrev pub plain_lines : List (List Monomial) → List Line
-plain_lines F = map line_of F
-
+-- the lines of the theory, one by one
 pub nth_plain : (F : List (List Monomial)) (k : ℕ) → nth_line (map line_of F) k ≡ line_of (get_or F k [])
-nth_plain [] k = refl
-nth_plain (f ∷ F) zero = refl
-nth_plain (f ∷ F) (suc k) = nth_plain F k
+nth_plain F k = get_or-map line_of F k []
 
 pub plain_polynomials : (F : List (List Monomial)) → polynomials (map line_of F) ≡ map polynomial_of F
 plain_polynomials [] = refl

@@ -57,10 +57,6 @@ module _ (ring : CoefficientRing) (order : TermOrder) where
         sym (ok_ok last) ∙ ap (λ lines. record { lines = lines; settled = state.settled }) w.1,
       )
 
-  -- a formula is related exactly when it keeps the rules and there is room for it
-  pub related_exactly : (state : State) (f : List Monomial) → ((s : State) × (related ring order state f ≡ Ok s)) ↔ Relatable ring order state f
-  related_exactly state f = (λ p. (relate_checks state f p.0 p.1).0, λ h. (with_relation state f, relate_granted state f h))
-
   -- what a write asks
   abbrev pub Writable : State → List ℕ → Type 0
   Writable state memory = (complete state ≡ true) × (length (sheet ring order state.lines) ≤ length memory)

@@ -171,12 +171,6 @@ module _ (ring : CoefficientRing) (order : TermOrder) where
     pub headed_line : (k : ℕ) → k < length F → Headed ring order (numbered_line ring F k)
     headed_line k h = headed_entry (get_or F k []) (All-get_or (Entry ring order) F k [] h entries)
 
-    -- where the top of an A- or S-polynomial would stand
-    abbrev pub job_top : Job → Term
-    job_top (Job.A k) = (numbered_line ring F k).head.term
-    job_top (Job.G i k) = head_lcm (numbered_line ring F i) (numbered_line ring F k)
-    job_top (Job.S i k) = head_lcm (numbered_line ring F i) (numbered_line ring F k)
-
     pub a_under : (k : ℕ) → k < length F → Under ring order (numbered_line ring F k).head.term (worth ring F (polynomial_steps ring F (Job.A k)))
     a_under k h x n = not_before ring order (numbered_line ring F k).head.term x n
         (λ e. job_worth ring F (Job.A k) x ∙ ap (at ring (a_polynomial ring (numbered_line ring F k))) e ∙ same_code ring _ (code_ring ring).zero ((critical_polynomials ring order).a_cancelled (numbered_line ring F k) (headed_line k h)))

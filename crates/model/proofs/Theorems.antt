@@ -9,9 +9,9 @@ use Rattle.term.specs.declared.monomial.Monomial.{Monomial}
 use Rattle.formula.specs.Polynomial.{Packed}
 use Rattle.layout.specs.Line.{Line}
 use Rattle.model.specs.Workbook.{State, complete, formulas, jobs, relations}
-use Rattle.model.specs.Runs.{Call, Run, relating, run}
+use Rattle.model.specs.Runs.{Call, run}
 use Rattle.model.specs.Rules.{LineLawful, numbered}
-use Rattle.model.specs.Grants.{GrantedExactly, OnlyRelateAndAdvanceChange, RunLimits, with_relation}
+use Rattle.model.specs.Grants.{GrantedExactly, RunLimits, with_relation}
 use Rattle.model.specs.Spelling.{spelled_lines}
 use Rattle.model.specs.Law.{DecisionsHold, Law, LinesSpellRelations, RunLaw, SameExactlyOnCombinations}
 use Rattle.model.proofs.Grants.{relate_checks, relate_granted, unwritten_memory, write_checks, write_granted, written_exactly}
@@ -85,14 +85,3 @@ module _ (ring : CoefficientRing) (order : TermOrder) where
             ap complete e ∙ lt-leb (jobs (with_relation (run ring order calls).state f).lines) (run ring order calls).state.settled
             (let m = jobs_more (run ring order calls).state.lines (record { formula = f; steps = [] }) in let l = s.within.settled_jobs in omega arith);
       }
-
-  pub only_relate_and_advance_change : (r : Run) → OnlyRelateAndAdvanceChange ring order r
-  only_relate_and_advance_change r = record {
-    refused_relate = λ f refusal e. (ap (λ o. (relating r f o).state) e, ap (λ o. (relating r f o).relations) e);
-    granted_relate = λ f after e. (ap (λ o. (relating r f o).state) e, ap (λ o. (relating r f o).relations) e);
-    advance_keeps_relations = λ k. refl;
-    report_keeps = (refl, refl);
-    remainder_keeps = λ f a m t. (refl, refl);
-    decide_keeps = λ f a. (refl, refl);
-    write_keeps = λ m. (refl, refl);
-  }

@@ -1,5 +1,6 @@
 -- The coefficients of formulas and of sums of packed steps, as elements of the ring of codes.
-use Rattle.std.proofs.Common.{◌≡◌, ℕ, zero, suc, ◌<◌, true, false, List, [], ◌∷◌, ◌++◌, map, get_or, Ok, sym, refl, ap, ◌∙◌, ap₂, arith}
+use Rattle.std.proofs.Common.{◌≡◌, ℕ, ◌<◌, true, false, List, [], ◌∷◌, ◌++◌, map, get_or, Ok, sym, refl, ap, ◌∙◌, ap₂, arith}
+use Rattle.std.proofs.Math.ListN.{get_or-map}
 use Rattle.std.proofs.ByRecursion.{All-weaker}
 use Rattle.std.proofs.lemmas.Bool.{cond-true, cond-false}
 use Rattle.std.specs.List.{AllByRecursion}
@@ -76,9 +77,7 @@ module _ (ring : CoefficientRing) where
       product_with_zero a h = ap (λ z. z.0) (times_zero (code_ring ring) (a, h))
 
   pub numbered_polynomial : (F : List (List Monomial)) (k : ℕ) → numbered (map polynomial_of F) k ≡ polynomial_of (get_or F k [])
-  numbered_polynomial [] k = refl
-  numbered_polynomial (f ∷ F) zero = refl
-  numbered_polynomial (f ∷ F) (suc k) = numbered_polynomial F k
+  numbered_polynomial F k = get_or-map polynomial_of F k []
 
   -- a sum of packed steps is the sum of the steps that they stand for
   pub at_steps : (F : List (List Monomial)) (steps : List Step) (t : Term) → at ring (sum_of_steps ring (map polynomial_of F) (map step_of steps)) t ≡ worth F steps t

@@ -10,21 +10,25 @@ use ring::Ring;
 use term::Order;
 
 /// The law over every list of calls on a workbook just opened, and over all bytes that an audit is given.
+#[tactic(auto, using(crate::proofs::Theorems::law))]
 pub fn law_over_runs<R: Ring, O: Order>(polynomials: &PolynomialRing<R, O>)
     ensures law { Law (R.Ring.meaning polynomials.now.ring) (O.Order.meaning polynomials.now.order) }
 {}
 
 /// The audit passes exactly the sheets that keep the rules.
+#[tactic(auto, using(crate::proofs::Audits::audited_exactly))]
 pub fn audit_passes_exactly<R: Ring, O: Order>(polynomials: &PolynomialRing<R, O>)
     ensures passes_exactly_what_keeps_the_rules { PassesExactlyWhatKeepsTheRules (R.Ring.meaning polynomials.now.ring) (O.Order.meaning polynomials.now.order) }
 {}
 
 /// A remainder is what going down the formula leaves: each monomial is lowered as long as a line lowers it, and then the next is looked at.
+#[tactic(auto, using(crate::proofs::Scans::remainders_go_down))]
 pub fn remainders_go_down<R: Ring, O: Order>(polynomials: &PolynomialRing<R, O>)
     ensures remainders_go_down { RemaindersGoDown (R.Ring.meaning polynomials.now.ring) (O.Order.meaning polynomials.now.order) }
 {}
 
 /// Each call that may be refused is granted exactly where its checks pass, and leaves what it is to leave then, and else everything as it was.
+#[tactic(auto, using(crate::proofs::Theorems::granted_exactly))]
 pub fn calls_granted_exactly<R: Ring, O: Order>(polynomials: &PolynomialRing<R, O>)
     ensures granted_exactly { GrantedExactly (R.Ring.meaning polynomials.now.ring) (O.Order.meaning polynomials.now.order) }
 {}
@@ -45,6 +49,7 @@ pub fn only_relate_and_advance_change<R: Ring, O: Order>(polynomials: &Polynomia
 {}
 
 /// What a C host gets: a number for the modulus, then one for the order, then what the audit says.
+#[tactic(auto, using(crate::proofs::Hosts::host_law))]
 pub fn host_answers_in_order()
     ensures host_law { HostLaw }
 {}

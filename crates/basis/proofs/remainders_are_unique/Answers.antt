@@ -1,4 +1,4 @@
--- Unique remainders at this ring and this order.
+-- Unique remainders at this ring and this order, which the check does not find with the lemma named on the function.
 use Rattle.basis.proofs.Remainders.{remainders_are_unique}
 use Rattle.basis.proofs.remainders_are_unique.Goals as goal
 

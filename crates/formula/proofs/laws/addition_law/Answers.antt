@@ -1,4 +1,4 @@
--- The law of adding at the ring and the order given.
+-- The law of adding at the ring and the order given, which the check does not find with the lemma named on the function.
 use Rattle.formula.proofs.Adding.{addition_law}
 use Rattle.formula.proofs.laws.addition_law.Goals as goal
 

@@ -1,4 +1,4 @@
--- The law of an advance, at this ring and this order.
+-- The law of an advance, at this ring and this order, which the check does not find with the lemma named on the function.
 use Rattle.model.proofs.Advances.{advance_law}
 use Rattle.model.proofs.laws.advance_stops_for_its_reason.Goals as goal
 

@@ -1,4 +1,4 @@
--- What is refused, at this ring and this order.
+-- What is refused, at this ring and this order, which the check does not find with the lemma named on the function.
 use Rattle.model.proofs.RefusedInOrder.{refused_in_order}
 use Rattle.model.proofs.laws.refusals_come_in_order.Goals as goal
 

@@ -1,4 +1,4 @@
--- The limits of runs, at this ring and this order.
+-- The limits of runs, at this ring and this order, which the check does not find with the lemma named on the function.
 use Rattle.model.proofs.Theorems.{run_limits}
 use Rattle.model.proofs.laws.runs_keep_limits.Goals as goal
 
