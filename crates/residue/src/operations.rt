@@ -7,24 +7,25 @@ use crate::modulus::ResidueRing;
 use modular::{common_divisor, multiplier};
 use ring::{Bezout, Code, Ring};
 
-/// The gcd of the codes a and b modulo n with its least cofactors: u solves u·a = g modulo the divisor of b and n, and v solves what is then missing.
-#[tactic(auto, using(modular::proofs::Residues::gcd_worked_out))]
-fn least_cofactors(n: u32, a: u32, b: u32) -> Bezout
-    requires at_least { 2 ≤ n }
-    requires at_most { n ≤ 65536 }
-    requires left_code { a < n }
-    requires right_code { b < n }
-    ensures { result ≡ modular_gcd n a b }
-{
-    let right = common_divisor(b, n);
-    let g = common_divisor(a, right);
-    let u = multiplier(right, a, g).unwrap_or(0);
-    let missing = g + (n - u * a % n);
-    let v = multiplier(n, b, missing).unwrap_or(0);
-    Bezout {
-        g: (g % n) as Code,
-        u: u as Code,
-        v: v as Code,
+impl ResidueRing {
+    /// The gcd of the codes a and b with its least cofactors: u solves u·a = g modulo the divisor of b and n, and v solves what is then missing.
+    #[tactic(auto, using(modular::proofs::Residues::gcd_worked_out))]
+    fn least_cofactors(&self, a: u32, b: u32) -> Bezout
+        requires left_code { a < self.now.n }
+        requires right_code { b < self.now.n }
+        ensures { result ≡ modular_gcd self.now.n a b }
+    {
+        let n = self.modulus();
+        let right = common_divisor(b, n);
+        let g = common_divisor(a, right);
+        let u = multiplier(right, a, g).unwrap_or(0);
+        let missing = g + (n - u * a % n);
+        let v = multiplier(n, b, missing).unwrap_or(0);
+        Bezout {
+            g: (g % n) as Code,
+            u: u as Code,
+            v: v as Code,
+        }
     }
 }
 
@@ -82,7 +83,7 @@ impl Ring for ResidueRing {
         if !self.holds(a) || !self.holds(b) {
             return Bezout::default();
         }
-        least_cofactors(self.modulus(), a as u32, b as u32)
+        self.least_cofactors(a as u32, b as u32)
     }
 
     fn annihilator(&self, a: Code) -> Code {

@@ -49,6 +49,7 @@ impl Integers {
     }
 }
 
+/// Each method tests its numbers itself, as the rings' own rule has it.
 impl Expected for Integers {
     fn sum(&self, a: Code, b: Code) -> Code {
         if !self.has(a) || !self.has(b) {

@@ -8,7 +8,7 @@ use ring::{Ring, difference, divides};
 use std::process::Abort;
 use std::test::Fail;
 
-/// The pair of two residue rings.
+/// The pair of two residue rings, without the crate that reads plans of rings.
 fn residue_pair(p: u32, q: u32) -> Result<PairRing<ResidueRing, ResidueRing>, Refusal> {
     PairRing::new(ResidueRing::new(p)?, ResidueRing::new(q)?)
 }

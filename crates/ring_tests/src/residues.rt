@@ -52,17 +52,17 @@ fn divisors_in_the_largest_ring(rt: HostRuntime) -> Result<(), Fail> {
     Ok(())
 }
 
-/// The number of the refusal that the ring modulo n meets, or 0.
-fn refusal_number(n: u32) -> u8 {
-    ResidueRing::new(n).err().map_or(0, u8::from)
+/// The number of the refusal that the ring modulo n meets, if it meets one.
+fn refusal_number(n: u32) -> Option<u8> {
+    ResidueRing::new(n).err().map(u8::from)
 }
 
 #[test]
 fn sizes_outside_the_limits_are_refused(rt: HostRuntime) {
-    assert_eq!(rt; refusal_number(0), 1);
-    assert_eq!(rt; refusal_number(1), 1);
-    assert_eq!(rt; refusal_number(2), 0);
-    assert_eq!(rt; refusal_number(65_536), 0);
-    assert_eq!(rt; refusal_number(65_537), 1);
-    assert_eq!(rt; refusal_number(4_294_967_295), 1);
+    assert_eq!(rt; refusal_number(0), Some(1));
+    assert_eq!(rt; refusal_number(1), Some(1));
+    assert_eq!(rt; refusal_number(2), None);
+    assert_eq!(rt; refusal_number(65_536), None);
+    assert_eq!(rt; refusal_number(65_537), Some(1));
+    assert_eq!(rt; refusal_number(4_294_967_295), Some(1));
 }
