@@ -1,5 +1,2 @@
 pub mod Answered
-pub mod Decimal
-pub mod Rings
-pub mod Texts
-pub mod Words
+pub mod Printed

@@ -1,23 +1,19 @@
 //! The program `panel`: it reads a script of commands, carries out each and prints what it did.
 #![tactic(auto)]
 
+mod command;
+mod failure;
+mod parse;
+mod printing;
+mod session;
+
 ghost use Rattle.std.specs.Prelude.{◌≡◌, OnErr};
 
-mod answer;
-mod command;
-mod decimal;
-mod fault;
-mod line;
-mod parse;
-mod rings;
-mod scan;
-mod session;
-mod words;
-
 use answer::Answer;
-use fault::Fault;
-use line::Line;
+use failure::Failure;
 use parse::parse;
+use printing::print;
+use script::Line;
 use session::Session;
 use std::io;
 use std::io::{BufReader, BufWriter, Write};
@@ -32,26 +28,22 @@ fn run(rt: &HostRuntime) -> io::Result<()> {
     let mut output = BufWriter::new(rt.alloc(), rt.stdout())?;
     let mut session = Session::new();
     let mut line = Line::new(rt.alloc());
+    // The lines are counted, since a failure prints the number of its line.
     for number in 1..u64::MAX {
         if !line.read(&mut input)? {
             break;
         }
-        match carry_out_line(&mut session, &line) {
-            Ok(Some(answer)) => writeln!(output, "{answer}")?,
-            Ok(None) => {}
-            Err(fault) => writeln!(output, "error: line {number}: {fault}")?,
-        }
+        print(&mut output, number, carry_out_line(&mut session, &line))?;
     }
     output.flush()
 }
 
-/// Carries out a line; none for an empty line and for a comment. A line that is no command changes nothing.
-fn carry_out_line(session: &mut Session, line: &Line) -> Result<Option<Answer>, Fault>
+/// Carries out a line; none for an empty line and for a comment. A line that fails changes nothing.
+fn carry_out_line(session: &mut Session, line: &Line) -> Result<Option<Answer>, Failure>
     ensures { OnErr result (session.new ≡ session.old) }
 {
-    let text = line.text()?;
-    match parse(text)? {
-        Some(command) => Ok(Some(session.carry_out(command))),
+    match parse(line.text()?)? {
+        Some(command) => Ok(Some(session.carry_out(command)?)),
         None => Ok(None),
     }
 }

@@ -1,7 +1,7 @@
 //! From a line's words to its command.
-use crate::command::{Command, Operation, RingPlan};
-use crate::fault::Fault;
-use crate::words::Words;
+use crate::command::Command;
+use ring_plan::RingPlan;
+use script::{Fault, Operation, Words};
 
 const COMMENT: u8 = b'#';
 

@@ -1,4 +1,0 @@
-mod Decimals
-mod Meanings
-mod Plans
-mod Scans

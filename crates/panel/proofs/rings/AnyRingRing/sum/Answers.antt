@@ -1,8 +1,0 @@
--- The ring that is held answers for the value.
-use Rattle.panel.proofs.Meanings.{meaning_at}
-use Rattle.panel.specs.declared.rings.AnyRing.TheVariants.{Triple}
-use Rattle.panel.proofs.rings.AnyRingRing.sum.Goals as goal
-
-pub returns-in-Triple : goal.returns-in-Triple
-returns-in-Triple c =
-    meaning_at (λ m. m.sum c.args.a c.args.b) _ (Triple c.in-Triple.ring) _ c.in-Triple.is c.sum-in-Triple.ensures
