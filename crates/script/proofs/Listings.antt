@@ -2,7 +2,7 @@
 use Rattle.std.proofs.Common.{◌≡◌, ℕ, zero, suc, ◌<◌, ◌≤◌, Bool, true, false, cond, List, [], ◌∷◌, ◌++◌, length, take, Some, None, Ok, Err, Option, Result, sym, refl, ap, ◌∙◌, arith}
 use Rattle.term.specs.declared.monomial.Monomial.{Monomial}
 use Rattle.script.specs.declared.fault.Fault.{Fault}
-use Rattle.script.specs.Formulas.{in_front, is_byte, listed_from, monomials_in, part_word, unless_slash, words_as_monomials}
+use Rattle.script.specs.Formulas.{after_part, left_after, left_from, in_front, is_byte, listed_from, monomials_in, part_word, unless_slash, words_as_monomials}
 use Rattle.script.specs.Hexadecimal.{packed_in}
 use Rattle.script.specs.Listed.{max_listed}
 use Rattle.script.specs.Words.{after_word, word}
@@ -87,3 +87,29 @@ part_shorter bs w e = word_shorter w bs (part_word_is_word (word bs) w e)
 pub words_all : (held : List Monomial) (bs : List ℕ) → length held ≤ 65 → part_word bs ≡ None → Ok held ≡ listed_with held (monomials_in bs)
 words_all held bs h e =
     ap Ok (sym (ap (take max_listed) (append-nil held) ∙ take_all max_listed held h)) ∙ ap (listed_with held) (sym (monomials_all bs e))
+
+-- what is left is the same, however many words are asked for, if they are as many as the bytes
+left_enough : (m n : ℕ) (bs : List ℕ) → length bs ≤ m → length bs ≤ n → left_after m bs ≡ left_after n bs
+left_enough zero zero bs p q = refl
+left_enough zero (suc n) [] p q = refl
+left_enough zero (suc n) (b ∷ bs) p q = absurd (omega arith)
+left_enough (suc m) zero [] p q = refl
+left_enough (suc m) zero (b ∷ bs) p q = absurd (omega arith)
+left_enough (suc m) (suc n) bs p q =
+    at (part_word bs) refl (λ short. left_enough m n (after_word bs) (omega arith) (omega arith))
+  where
+    at : (o : Option (List ℕ)) → part_word bs ≡ o → (length (after_word bs) < length bs → left_after m (after_word bs) ≡ left_after n (after_word bs)) → left_from o bs (left_after m (after_word bs)) ≡ left_from o bs (left_after n (after_word bs))
+    at None e rest = refl
+    at (Some w) e rest = rest (word_shorter w bs (part_word_is_word (word bs) w e))
+
+-- after a word of this part, and where there is none
+pub after_part_more : (bs w : List ℕ) → part_word bs ≡ Some w → after_part (after_word bs) ≡ after_part bs
+after_part_more [] w e = let z : ◌≡◌ {A = ℕ} 0 1 = cc in absurd (omega arith)
+after_part_more (b ∷ bs) w e =
+    let short = word_shorter w (b ∷ bs) (part_word_is_word (word (b ∷ bs)) w e) in
+    left_enough (length (after_word (b ∷ bs))) (length bs) (after_word (b ∷ bs)) (omega arith) (omega arith) ∙
+    sym (ap (λ o. left_from o (b ∷ bs) (left_after (length bs) (after_word (b ∷ bs)))) e)
+
+pub after_part_all : (bs : List ℕ) → part_word bs ≡ None → bs ≡ after_part bs
+after_part_all [] e = refl
+after_part_all (b ∷ bs) e = sym (ap (λ o. left_from o (b ∷ bs) (left_after (length bs) (after_word (b ∷ bs)))) e)

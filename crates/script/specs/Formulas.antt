@@ -53,6 +53,27 @@ formula_from (Some w) bs = cond (is_byte 48 w) (Ok []) (monomials_in bs)
 abbrev pub formula_in : List ℕ → Result (List Monomial) Fault
 formula_in bs = formula_from (part_word bs) bs
 
+-- what is left of a line after the first n words of this part
+abbrev pub left_from : Option (List ℕ) → (here further : List ℕ) → List ℕ
+left_from None here further = here
+left_from (Some w) here further = further
+
+abbrev pub left_after : ℕ → List ℕ → List ℕ
+left_after zero bs = bs
+left_after (suc n) bs = left_from (part_word bs) bs (left_after n (after_word bs))
+
+-- after all words of this part
+abbrev pub after_part : List ℕ → List ℕ
+after_part bs = left_after (length bs) bs
+
+-- and after a formula, of which the word `0` is one
+abbrev pub left_of_formula : Option (List ℕ) → List ℕ → List ℕ
+left_of_formula None bs = bs
+left_of_formula (Some w) bs = cond (is_byte 48 w) (after_word bs) (after_part bs)
+
+abbrev pub after_formula : List ℕ → List ℕ
+after_formula bs = left_of_formula (part_word bs) bs
+
 -- as many of the monomials as are kept
 abbrev pub first_listed : Result (List Monomial) Fault → Result (List Monomial) Fault
 first_listed (Ok f) = Ok (take max_listed f)

@@ -1,9 +1,9 @@
 //! The words of a line, which one or more spaces separate.
-ghost use Rattle.std.specs.Prelude.{◌≡◌};
+ghost use Rattle.std.specs.Prelude.{◌≡◌, OnOk};
 ghost use Rattle.std.specs.Option.{option_map, ok_or};
 ghost use Rattle.std.specs.Result.{result_map_both as mapped_result};
 ghost use Rattle.script.specs.declared.fault.Fault.TheVariants.{MissingWord};
-ghost use Rattle.script.specs.Formulas.{first_listed, formula_in, is_byte, monomials_in, part_word, slash_word};
+ghost use Rattle.script.specs.Formulas.{after_formula, after_part, first_listed, formula_in, is_byte, monomials_in, part_word, slash_word};
 ghost use Rattle.script.specs.Listed.{listed};
 ghost use Rattle.script.specs.Words.{after_spaces, after_word, end_of_words, number_of_optional, number_of_word, packed_of_word, word};
 
@@ -91,7 +91,8 @@ impl<'a> Words<'a> {
 
     /// The monomials of a formula, which goes on to the word `/` or the end of the line; the word `0` is the empty one.
     pub fn formula(&mut self) -> Result<Listing, Fault>
-        ensures { mapped_result listed (λ fault. fault) result ≡ first_listed (formula_in self.old.rest.now) }
+        ensures formula { mapped_result listed (λ fault. fault) result ≡ first_listed (formula_in self.old.rest.now) }
+        ensures rest { OnOk result (self.new.rest.now ≡ after_formula self.old.rest.now) }
     {
         let first = self.ahead().ok_or(Fault::MissingWord)?;
         if is_byte(first, ZERO) {
@@ -103,7 +104,8 @@ impl<'a> Words<'a> {
 
     /// The words up to `/` or the end of the line as packed monomials.
     fn monomials(&mut self) -> Result<Listing, Fault>
-        ensures { mapped_result listed (λ fault. fault) result ≡ first_listed (monomials_in self.old.rest.now) }
+        ensures monomials { mapped_result listed (λ fault. fault) result ≡ first_listed (monomials_in self.old.rest.now) }
+        ensures rest { OnOk result (self.new.rest.now ≡ after_part self.old.rest.now) }
     {
         let mut list = Listing::new();
         while let Some(word) = self.ahead() {
@@ -135,7 +137,8 @@ impl<'a> Words<'a> {
 
     /// That no word is left.
     pub fn end(&mut self) -> Result<(), Fault>
-        ensures { result ≡ end_of_words (word self.old.rest.now) }
+        ensures end { result ≡ end_of_words (word self.old.rest.now) }
+        ensures rest { self.new.rest.now ≡ after_word self.old.rest.now }
     {
         match self.next() {
             Some(_) => Err(Fault::ExtraWord),
