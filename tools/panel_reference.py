@@ -12,6 +12,9 @@ MAX_SIZE = 65_536
 MAX_LINE = 1_000_000
 MAX_NUMBER = 4_294_967_295
 MAX_CODE = 65_535
+MAX_EXPONENT = 255
+MAX_MONOMIALS = 64
+REGISTERS = "abcdef"
 
 
 class Fault(Exception):
@@ -122,6 +125,73 @@ OPERATIONS = {
 }
 
 
+class Monomial:
+    """Six exponents and a code, from a number of 64 bits: 8 bits for each exponent, then 16 for the code."""
+
+    def __init__(self, bits):
+        *exponents, high, low = bits.to_bytes(8, "big")
+        self.term = tuple(exponents)
+        self.code = 256 * high + low
+
+
+def lex_key(term):
+    """Larger keys are greater terms: the first exponent that differs decides."""
+    return term
+
+
+def reverse_key(term):
+    """The degree, then the last exponent that differs, the smaller one greater."""
+    return (sum(term), tuple(-exponent for exponent in reversed(term)))
+
+
+def weight_key(weights, below):
+    """The sum of weight times exponent, then the key below."""
+    return lambda term: (sum(w * e for w, e in zip(weights, term)), below(term))
+
+
+def checked(ring, key, monomials):
+    """The polynomial that a list is: its codes by terms."""
+    if len(monomials) > MAX_MONOMIALS:
+        raise Refused(2)
+    if any(not 0 < m.code < ring.size for m in monomials):
+        raise Refused(3)
+    keys = [key(m.term) for m in monomials]
+    if keys != sorted(set(keys), reverse=True):
+        raise Refused(4)
+    return {m.term: m.code for m in monomials}
+
+
+def added(ring, key, first, factor, second):
+    """A polynomial plus a monomial times another, from unchecked lists."""
+    total, line = checked(ring, key, first), checked(ring, key, second)
+    if not 0 < factor.code < ring.size:
+        raise Refused(3)
+    for term, code in line.items():
+        product = tuple(map(sum, zip(factor.term, term)))
+        if max(product) > MAX_EXPONENT:
+            raise Refused(8)
+        total[product] = ring.sum(total.get(product, 0), ring.product(factor.code, code))
+    total = {term: code for term, code in total.items() if code != 0}
+    if len(total) > MAX_MONOMIALS:
+        raise Refused(9)
+    return total
+
+
+def factors(ring, term, code):
+    """A monomial's coefficient and powers, as they are shown."""
+    powers = [
+        letter if exponent == 1 else f"{letter}^{exponent}"
+        for letter, exponent in zip(REGISTERS, term)
+        if exponent > 0
+    ]
+    return powers if powers and code == ring.one() else [str(code), *powers]
+
+
+def formula_text(ring, key, polynomial):
+    terms = sorted(polynomial, key=key, reverse=True)
+    return "+".join("*".join(factors(ring, t, polynomial[t])) for t in terms) or "0"
+
+
 def number(word, most):
     if not all("0" <= digit <= "9" for digit in word):
         raise Fault("not a number")
@@ -131,14 +201,69 @@ def number(word, most):
     return int(digits)
 
 
+def packed(word):
+    if len(word) != 16 or any(digit not in "0123456789abcdefABCDEF" for digit in word):
+        raise Fault("not 16 hexadecimal digits")
+    return Monomial(int(word, 16))
+
+
+def taken(words):
+    """The next word, taken off the list."""
+    if not words:
+        raise Fault("missing word")
+    return words.pop(0)
+
+
+def formula(words):
+    """The monomials up to a `/` or the end, taken off the list."""
+    end = words.index("/") if "/" in words else len(words)
+    part = words[:end]
+    if not part:
+        raise Fault("missing word")
+    if part[0] == "0":
+        del words[0]
+        return []
+    del words[:end]
+    return [packed(word) for word in part]
+
+
+def separator(words):
+    if taken(words) != "/":
+        raise Fault("extra word")
+
+
+def ended(words):
+    if words:
+        raise Fault("extra word")
+
+
 def numbers(words, least, most, largest):
     """The words as numbers, from left to right; at least and at most so many of them."""
     read = [number(word, largest) for word in words[:most]]
     if len(read) < least:
         raise Fault("missing word")
-    if len(words) > most:
-        raise Fault("extra word")
+    ended(words[most:])
     return read
+
+
+def plain_key(word):
+    keys = {"lex": lex_key, "reverse": reverse_key}
+    if word not in keys:
+        raise Fault("unknown word")
+    return keys[word]
+
+
+def planned_order(words):
+    """The number of the order's kind, and its key."""
+    name = taken(words)
+    if name == "weight":
+        weights = packed(taken(words)).term
+        kind, key = 3, weight_key(weights, plain_key(taken(words)))
+    else:
+        key = plain_key(name)
+        kind = 1 if name == "lex" else 2
+    ended(words)
+    return kind, key
 
 
 def planned_ring(words):
@@ -167,18 +292,55 @@ def shown(answer):
     return str(answer)
 
 
-def carried_out(ring, words):
-    """The ring that stands after the command, and what is printed."""
-    if words[0] == "ring":
-        ring = ring_of(planned_ring(words[1:]))
-        return ring, f"ring {ring.size}"
-    if words[0] not in OPERATIONS:
-        raise Fault("unknown command")
-    count, outside = OPERATIONS[words[0]]
-    codes = numbers(words[1:], count, count, MAX_CODE)
-    if any(a >= ring.size for a in codes):
-        return ring, shown(outside)
-    return ring, shown(getattr(ring, words[0])(*codes))
+class Session:
+    """The ring and the order that stand; a command that is no command or is refused leaves them."""
+
+    def __init__(self):
+        self.ring, self.key = Residues(2), lex_key
+
+    def carried_out(self, name, words):
+        """What a command prints."""
+        method = getattr(self, f"on_{name}", None)
+        if method is not None:
+            return method(words)
+        if name not in OPERATIONS:
+            raise Fault("unknown command")
+        count, outside = OPERATIONS[name]
+        codes = numbers(words, count, count, MAX_CODE)
+        if any(a >= self.ring.size for a in codes):
+            return shown(outside)
+        return shown(getattr(self.ring, name)(*codes))
+
+    def on_ring(self, words):
+        self.ring = ring_of(planned_ring(words))
+        return f"ring {self.ring.size}"
+
+    def on_order(self, words):
+        kind, self.key = planned_order(words)
+        return f"order {kind}"
+
+    def on_compare(self, words):
+        left, right = packed(taken(words)), packed(taken(words))
+        ended(words)
+        left, right = self.key(left.term), self.key(right.term)
+        return "less" if left < right else "greater" if left > right else "equal"
+
+    def on_show(self, words):
+        monomials = formula(words)
+        ended(words)
+        return self.formula_line(checked(self.ring, self.key, monomials))
+
+    def on_add(self, words):
+        first = formula(words)
+        separator(words)
+        factor = packed(taken(words))
+        separator(words)
+        second = formula(words)
+        ended(words)
+        return self.formula_line(added(self.ring, self.key, first, factor, second))
+
+    def formula_line(self, polynomial):
+        return f"formula {formula_text(self.ring, self.key, polynomial)}"
 
 
 def words_of(line):
@@ -195,7 +357,7 @@ def words_of(line):
 
 
 def main():
-    ring = Residues(2)
+    session = Session()
     lines = sys.stdin.buffer.read().split(b"\n")
     if lines[-1] == b"":
         lines.pop()
@@ -203,8 +365,7 @@ def main():
         try:
             words = words_of(line)
             if words:
-                ring, text = carried_out(ring, words)
-                print(text)
+                print(session.carried_out(words[0], words[1:]))
         except Fault as fault:
             print(f"error: line {count}: {fault}")
         except Refused as refused:

@@ -1,7 +1,9 @@
 //! From a line's words to its command.
 use crate::command::Command;
+use either::Either;
 use ring_plan::RingPlan;
-use script::{Fault, Operation, Words};
+use script::{Addition, AnyOrder, Fault, Operation, PlainOrder, Words};
+use term::{Lex, Reverse, Weight};
 
 const COMMENT: u8 = b'#';
 
@@ -27,6 +29,10 @@ fn command(name: &[u8], words: &mut Words<'_>) -> Result<Command, Fault> {
     }
     match name {
         b"ring" => Ok(Command::Ring(ring_plan(words)?)),
+        b"order" => Ok(Command::Order(any_order(words)?)),
+        b"compare" => Ok(Command::Compare(words.monomial()?, words.monomial()?)),
+        b"show" => Ok(Command::Show(words.formula()?)),
+        b"add" => Ok(Command::Add(addition(words)?)),
         _ => Err(Fault::UnknownCommand),
     }
 }
@@ -64,4 +70,39 @@ fn pair_plan(words: &mut Words<'_>) -> Result<RingPlan, Fault> {
         Some(last) => Ok(RingPlan::Triple(left, right, last)),
         None => Ok(RingPlan::Pair(left, right)),
     }
+}
+
+/// The order that the words after `order` ask for.
+fn any_order(words: &mut Words<'_>) -> Result<AnyOrder, Fault> {
+    match words.required()? {
+        b"weight" => {
+            let weights = words.monomial()?;
+            let below = plain_order(words.required()?)?;
+            Ok(Either::Right(Weight::new(weights, below)))
+        }
+        name => Ok(Either::Left(plain_order(name)?)),
+    }
+}
+
+/// The order of this name that a weight can stand over.
+fn plain_order(name: &[u8]) -> Result<PlainOrder, Fault> {
+    match name {
+        b"lex" => Ok(Either::Left(Lex)),
+        b"reverse" => Ok(Either::Right(Reverse)),
+        _ => Err(Fault::UnknownWord),
+    }
+}
+
+/// The sum that the words after `add` ask for.
+fn addition(words: &mut Words<'_>) -> Result<Addition, Fault> {
+    let formula = words.formula()?;
+    words.separator()?;
+    let factor = words.monomial()?;
+    words.separator()?;
+    let line = words.formula()?;
+    Ok(Addition {
+        formula,
+        factor,
+        line,
+    })
 }

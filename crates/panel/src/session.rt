@@ -1,53 +1,79 @@
 //! A session: what stands from one command of a script to the next.
 ghost use Rattle.std.specs.Prelude.{◌≡◌, OnErr};
-ghost use Rattle.ring_plan.specs.Rings.{meaning_of, plan_of};
-ghost use Rattle.panel.specs.Answered.{answer_of, plan_after, planned, ring_after};
+ghost use Rattle.ring_plan.specs.Rings.{meaning_of as ring_meaning, plan_of};
+ghost use Rattle.answer.specs.Texts.{text_of_result};
+ghost use Rattle.panel.specs.Answered.{answer_of, order_after, plan_after, planned, ring_after};
+ghost use Rattle.panel.specs.Orders.{first_order, meaning_of as order_meaning};
 
 use crate::command::Command;
-use answer::{Answer, operate};
+use answer::{Answer, add, compare, operate, show};
+use either::Either;
+use formula::PolynomialRing;
 use refusal::Refusal;
 use ring::Ring;
 use ring_plan::{AnyRing, RingPlan};
+use script::AnyOrder;
+use term::{Lex, Order};
 
 /// The number of codes of the ring that a script starts with.
 const FIRST_SIZE: u32 = 2;
 
-/// What stands: the ring of the last `ring` command that was granted.
+/// What stands: the ring of the last `ring` command that was granted, and the order of the last `order` command.
 #[derive(Drop)]
 pub(crate) struct Session {
-    ring: AnyRing,
+    polynomials: PolynomialRing<AnyRing, AnyOrder>,
 }
 
 impl Session {
-    /// The session that a script starts with, in the residue ring of 2 codes.
+    /// The session that a script starts with, in the residue ring of 2 codes by the order lex.
     pub(crate) fn new() -> Session
-        ensures { plan_of result.ring ≡ RingPlan.Residue 2 }
+        ensures ring { plan_of result.polynomials.ring ≡ RingPlan.Residue 2 }
+        ensures order { result.polynomials.order ≡ first_order }
     {
         let Ok(ring) = RingPlan::Residue(FIRST_SIZE).ring() else {
             unreachable()
         };
-        Session { ring }
+        let order = Either::Left(Either::Left(Lex));
+        Session {
+            polynomials: PolynomialRing { ring, order },
+        }
     }
 
     /// Carries out a command. A refused one leaves the session as it was.
     pub(crate) fn carry_out(&mut self, command: Command) -> Result<Answer, Refusal>
-        ensures answer { result ≡ answer_of (meaning_of self.old.ring) command }
-        ensures ring { plan_of self.new.ring ≡ ring_after (plan_of self.old.ring) command }
+        ensures answer { text_of_result result ≡ answer_of (ring_meaning self.old.polynomials.ring) (order_meaning self.old.polynomials.order) command }
+        ensures ring { plan_of self.new.polynomials.ring ≡ ring_after (plan_of self.old.polynomials.ring) command }
+        ensures order { self.new.polynomials.order ≡ order_after self.old.polynomials.order command }
         ensures unchanged { OnErr result (self.new ≡ self.old) }
     {
         match command {
             Command::Ring(plan) => self.open_ring(plan),
-            Command::Operation(operation) => Ok(operate(&self.ring, operation)),
+            Command::Order(order) => Ok(self.open_order(order)),
+            Command::Operation(operation) => Ok(operate(&self.polynomials.ring, operation)),
+            Command::Compare(a, b) => Ok(compare(&self.polynomials.order, a, b)),
+            Command::Show(list) => show(&self.polynomials, &list),
+            Command::Add(addition) => add(&self.polynomials, &addition),
         }
     }
 
     /// Takes the ring of a plan in the place of the one that stands.
     fn open_ring(&mut self, plan: RingPlan) -> Result<Answer, Refusal>
         ensures answer { result ≡ planned plan }
-        ensures ring { plan_of self.new.ring ≡ plan_after (plan_of self.old.ring) plan }
+        ensures ring { plan_of self.new.polynomials.ring ≡ plan_after (plan_of self.old.polynomials.ring) plan }
+        ensures order { self.new.polynomials.order ≡ self.old.polynomials.order }
         ensures unchanged { OnErr result (self.new ≡ self.old) }
     {
-        self.ring = plan.ring()?;
-        Ok(Answer::Ring(self.ring.size()))
+        self.polynomials.ring = plan.ring()?;
+        Ok(Answer::Ring(self.polynomials.ring.size()))
+    }
+
+    /// Takes an order in the place of the one that stands.
+    fn open_order(&mut self, order: AnyOrder) -> Answer
+        ensures answer { result ≡ Answer.Order (order_meaning order).kind }
+        ensures ring { self.new.polynomials.ring ≡ self.old.polynomials.ring }
+        ensures order { self.new.polynomials.order ≡ order }
+    {
+        self.polynomials.order = order;
+        Answer::Order(order.kind_number())
     }
 }
