@@ -1,7 +1,8 @@
 -- How the three orders compare packed terms: lex by one number, reverse and weight by a number first.
-use Rattle.std.proofs.Common.{◌≡◌, ℕ, ◌/◌, ◌^◌, ◌<◌, Ordering, Less, Equal, Greater, nat_cmp, sym, ap, ◌∙◌, inl, inr, arith}
+use Rattle.std.proofs.Common.{◌≡◌, ℕ, ◌/◌, ◌^◌, ◌<◌, Ordering, Less, Equal, Greater, false, true, nat_cmp, sym, refl, ap, ◌∙◌, inl, inr, arith}
+use Rattle.std.proofs.lemmas.Bool.{false≢true}
 use Rattle.std.proofs.lemmas.Cmp.{ranked}
-use Rattle.std.specs.Ordering.{MatchOrdering}
+use Rattle.std.specs.Ordering.{MatchOrdering, is_ne, ordering_then}
 use Rattle.order.specs.Term.{Term, mirrored, degree, weighted}
 use Rattle.order.specs.TermOrder.{TermOrder, compared}
 use Rattle.order.specs.Keys.{ByKeys, lex_keys, reverse_keys}
@@ -42,6 +43,23 @@ first_then order key s t less greater {x} {y} p q {q = o} c r {Tie} tie = by o (
     by Less h e = e ∙ compared_is order s t Less (less (omega arith))
     by Equal h e = tie (sym p ∙ h ∙ q) e
     by Greater h e = e ∙ compared_is order s t Greater (greater (omega arith))
+
+-- an answer is what comes first, and on a tie of that what comes then
+pub then_on_tie : (first tie r : Ordering) → r ≡ ordering_then first tie → MatchOrdering first (r ≡ Less) (r ≡ tie) (r ≡ Greater)
+then_on_tie Less tie r h = h
+then_on_tie Equal tie r h = h
+then_on_tie Greater tie r h = h
+
+-- an answer that is no tie stands for itself, and on a tie what comes then does
+pub decided : (q : Ordering) → is_ne q ≡ true → MatchOrdering q (q ≡ Less) ⊥ (q ≡ Greater)
+decided Less h = refl
+decided Equal h = absurd (false≢true h)
+decided Greater h = refl
+
+pub undecided : (q : Ordering) {r tie : Ordering} → is_ne q ≡ false → r ≡ tie → MatchOrdering q (r ≡ Less) (r ≡ tie) (r ≡ Greater)
+undecided Less h e = absurd (false≢true (sym h))
+undecided Equal h e = e
+undecided Greater h e = absurd (false≢true (sym h))
 
 -- reverse: on a tie of the degrees the mirrored terms as numbers, the other way round
 mirrored_less : (s t : Term) → Fits s → Fits t → degree s ≡ degree t → ByKeys reverse_keys s t → packed (mirrored t) 0 < packed (mirrored s) 0
