@@ -7,7 +7,7 @@ ghost use Rattle.term.specs.declared.monomial.Monomial.{Monomial};
 ghost use Rattle.formula.specs.Formula.{blank, is_after, term};
 ghost use Rattle.formula.specs.Held.{Appended, NoRoom, ProductIn, Unchanged, held, outcome, shown};
 ghost use Rattle.formula.specs.Laws.{AdditionLaw};
-ghost use Rattle.formula.specs.Sum.{added, joined, merged, multiplied, plus, products_fit, times, unjoined};
+ghost use Rattle.formula.specs.Sum.{added, is_beside, joined, merged, multiplied, plus, products_fit, times, unjoined};
 
 use crate::laws::addition_law;
 use crate::{PolynomialRing, Row, WorkingFormula};
@@ -91,11 +91,18 @@ impl<R: Ring, O: Order> PolynomialRing<R, O> {
         ensures rest { result.1.now ≡ unjoined (O.Order.meaning self.now.order) list.now product }
     {
         match list {
-            [m, rest @ ..] if self.order.compare(*m, product).is_eq() => {
+            [m, rest @ ..] if self.is_beside(*m, product) => {
                 (plus(&self.ring, *m, product), rest)
             }
             _ => (product, list),
         }
+    }
+
+    /// Whether the terms of two monomials stand alike: they do exactly where they are one term, so they are not compared once more.
+    fn is_beside(&self, m: Monomial, n: Monomial) -> bool
+        ensures { result ≡ is_beside (O.Order.meaning self.now.order) m n }
+    {
+        m.with_coefficient(0) == n.with_coefficient(0)
     }
 }
 
