@@ -83,3 +83,7 @@ module _ (L R : CoefficientRing) where
   -- what a pair of two rings stands for: the pair where it has at most 65,536 codes, else its left ring
   abbrev pub paired : CoefficientRing
   paired = paired_if (few_enough L R) refl
+
+-- two rings that have too many pairs: what their pair stands for is the left one, with all its answers and its kind
+abbrev pub TooLargeIsLeft : CoefficientRing → CoefficientRing → Type 0
+TooLargeIsLeft L R = few_enough L R ≡ false → paired L R ≡ L

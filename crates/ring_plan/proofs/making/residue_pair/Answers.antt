@@ -14,4 +14,4 @@ returns-in_err-right c =
     rw (p.1, p.2) (refused_right c.args.p c.args.q c.in_err-right.field-0.0 c.in_err-right.ensures)
 
 pub returns : goal.returns
-returns c = made_pair c.in_ok-left.left c.in_ok-right.right c.args.p c.args.q _ c.in_ok-left.ensures c.in_ok-right.ensures c.new-3.ensures
+returns c = made_pair c.in_ok-left.left c.in_ok-right.right c.args.p c.args.q _ c.in_ok-left.ensures c.in_ok-right.ensures c.new-3.ensures.value

@@ -18,4 +18,4 @@ returns-in_err-right c =
 pub returns : goal.returns
 returns c =
     let a = c.args in
-    made_triple c.in_ok-left.left c.in_ok-right.right a.p a.q a.r _ c.in_ok-left.ensures c.in_ok-right.ensures c.new-2.ensures
+    made_triple c.in_ok-left.left c.in_ok-right.right a.p a.q a.r _ c.in_ok-left.ensures c.in_ok-right.ensures c.new-2.ensures.value
