@@ -7,6 +7,7 @@ use Rattle.term.specs.declared.monomial.Monomial.{Monomial}
 use Rattle.formula.specs.Held.{held}
 use Rattle.formula.specs.Text.{formula_text}
 use Rattle.answer.specs.declared.Answer.{Answer}
+use Rattle.answer.specs.declared.FormulaAnswer.{FormulaAnswer}
 use Rattle.answer.specs.declared.Answer.TheVariants as answer
 
 -- the line of a refusal, without its newline
@@ -29,9 +30,12 @@ text_of_answer (answer.Gcd b) = decimal b.g ++ (codes " " ++ (decimal b.u ++ (co
 text_of_answer (answer.Comparison Less) = codes "less"
 text_of_answer (answer.Comparison Equal) = codes "equal"
 text_of_answer (answer.Comparison Greater) = codes "greater"
-text_of_answer (answer.Formula one w) = text_of_formula one (Ok (held w))
 
--- the line of an answer or of a refusal
-abbrev pub text_of_result : Result Answer Refusal → List ℕ
-text_of_result (Ok answer) = text_of_answer answer
-text_of_result (Err refusal) = text_of_refusal refusal
+-- the line of a formula that is answered
+abbrev pub text_of_formula_answer : FormulaAnswer → List ℕ
+text_of_formula_answer answer = text_of_formula answer.one (Ok (held answer.formula))
+
+-- the line of a formula that is answered or of a refusal
+abbrev pub text_of_formula_result : Result FormulaAnswer Refusal → List ℕ
+text_of_formula_result (Ok answer) = text_of_formula_answer answer
+text_of_formula_result (Err refusal) = text_of_refusal refusal

@@ -5,10 +5,10 @@ ghost use Rattle.formula.specs.Formula.{term};
 ghost use Rattle.script.specs.Listed.{listed};
 ghost use Rattle.answer.specs.Operated.{operated};
 ghost use Rattle.answer.specs.Formulas.{KeptSuffice, shown_formula, sum_of};
-ghost use Rattle.answer.specs.Texts.{text_of_formula, text_of_result};
+ghost use Rattle.answer.specs.Texts.{text_of_formula, text_of_formula_result};
 
-use crate::Answer;
 use crate::formulas::{kept_suffice, shown, sum};
+use crate::{Answer, FormulaAnswer};
 use formula::PolynomialRing;
 use refusal::Refusal;
 use ring::Ring;
@@ -42,26 +42,26 @@ pub fn compare<O: Order>(order: &O, a: Monomial, b: Monomial) -> Answer
 pub fn show<R: Ring, O: Order>(
     polynomials: &PolynomialRing<R, O>,
     list: &Listing,
-) -> Result<Answer, Refusal>
-    ensures text { text_of_result result ≡ text_of_formula (R.Ring.meaning polynomials.now.ring).one (shown_formula (R.Ring.meaning polynomials.now.ring) (O.Order.meaning polynomials.now.order) (listed list.now)) }
+) -> Result<FormulaAnswer, Refusal>
+    ensures text { text_of_formula_result result ≡ text_of_formula (R.Ring.meaning polynomials.now.ring).one (shown_formula (R.Ring.meaning polynomials.now.ring) (O.Order.meaning polynomials.now.order) (listed list.now)) }
     ensures kept_suffice { KeptSuffice (R.Ring.meaning polynomials.now.ring) (O.Order.meaning polynomials.now.order) }
 {
     kept_suffice(polynomials);
     let formula = shown(polynomials, list.monomials())?;
-    Ok(Answer::Formula(polynomials.ring.one(), formula))
+    Ok(FormulaAnswer::over(&polynomials.ring, formula))
 }
 
 /// A formula plus a monomial times another; refused where the sum is.
 pub fn add<R: Ring, O: Order>(
     polynomials: &PolynomialRing<R, O>,
     addition: &Addition,
-) -> Result<Answer, Refusal>
-    ensures text { text_of_result result ≡ text_of_formula (R.Ring.meaning polynomials.now.ring).one (sum_of (R.Ring.meaning polynomials.now.ring) (O.Order.meaning polynomials.now.order) (listed addition.now.formula) addition.now.factor (listed addition.now.line)) }
+) -> Result<FormulaAnswer, Refusal>
+    ensures text { text_of_formula_result result ≡ text_of_formula (R.Ring.meaning polynomials.now.ring).one (sum_of (R.Ring.meaning polynomials.now.ring) (O.Order.meaning polynomials.now.order) (listed addition.now.formula) addition.now.factor (listed addition.now.line)) }
     ensures kept_suffice { KeptSuffice (R.Ring.meaning polynomials.now.ring) (O.Order.meaning polynomials.now.order) }
 {
     kept_suffice(polynomials);
     let formula = addition.formula.monomials();
     let line = addition.line.monomials();
     let sum = sum(polynomials, formula, addition.factor, line)?;
-    Ok(Answer::Formula(polynomials.ring.one(), sum))
+    Ok(FormulaAnswer::over(&polynomials.ring, sum))
 }

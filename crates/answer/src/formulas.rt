@@ -3,10 +3,24 @@ ghost use Rattle.std.specs.Prelude.{◌≡◌};
 ghost use Rattle.formula.specs.Held.{outcome};
 ghost use Rattle.answer.specs.Formulas.{KeptSuffice, shown_formula, sum_of};
 
+use crate::FormulaAnswer;
 use formula::{PolynomialRing, WorkingFormula};
 use refusal::Refusal;
 use ring::Ring;
 use term::{Monomial, Order};
+
+impl FormulaAnswer {
+    /// A formula over a ring as an answer.
+    pub(crate) fn over<R: Ring>(ring: &R, formula: WorkingFormula) -> FormulaAnswer
+        ensures one { result.one ≡ (R.Ring.meaning ring.now).one }
+        ensures formula { result.formula ≡ formula }
+    {
+        FormulaAnswer {
+            one: ring.one(),
+            formula,
+        }
+    }
+}
 
 /// The formula that a list is; refused where it is none.
 pub(crate) fn shown<R: Ring, O: Order>(

@@ -10,8 +10,8 @@ use formula::WorkingFormula;
 use ring::{Bezout, Code};
 use std::cmp::Ordering;
 
-/// What a command answers that is not refused, one line of the output.
-#[derive(Drop)]
+/// What a command without formulas answers that is not refused, one line of the output.
+#[derive(Clone, Copy)]
 pub enum Answer {
     /// A new ring, by its number of codes.
     Ring(u32),
@@ -23,6 +23,12 @@ pub enum Answer {
     Gcd(Bezout),
     /// How a term stands to another.
     Comparison(Ordering),
-    /// A formula, with the ring's one, which its text leaves out.
-    Formula(Code, WorkingFormula),
+}
+
+/// A formula that a command answers, one line of the output. It is no `Answer`, since each of these would have its room.
+#[derive(Drop)]
+pub struct FormulaAnswer {
+    /// The ring's one, which the text leaves out.
+    pub one: Code,
+    pub formula: WorkingFormula,
 }

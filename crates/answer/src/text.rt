@@ -1,8 +1,8 @@
 //! The text of an answer.
 ghost use Rattle.std.specs.Prelude.{Some};
-ghost use Rattle.answer.specs.Texts.{text_of_answer};
+ghost use Rattle.answer.specs.Texts.{text_of_answer, text_of_formula_answer};
 
-use crate::Answer;
+use crate::{Answer, FormulaAnswer};
 use formula::FormulaText;
 use ring::Bezout;
 use std::cmp::Ordering;
@@ -21,10 +21,15 @@ impl fmt::Display for Answer {
             Answer::Comparison(Ordering::Less) => write!(f, "less"),
             Answer::Comparison(Ordering::Equal) => write!(f, "equal"),
             Answer::Comparison(Ordering::Greater) => write!(f, "greater"),
-            Answer::Formula(one, formula) => {
-                let text = FormulaText::with_one(*one, formula.monomials());
-                write!(f, "formula {text}")
-            }
         }
+    }
+}
+
+impl fmt::Display for FormulaAnswer {
+    ghost output = { λ answer. Some (text_of_formula_answer answer) };
+
+    fn fmt<W: fmt::Write>(&self, f: &mut fmt::Formatter<W>) -> fmt::Result {
+        let text = FormulaText::with_one(self.one, self.formula.monomials());
+        write!(f, "formula {text}")
     }
 }

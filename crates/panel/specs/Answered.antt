@@ -8,13 +8,15 @@ use Rattle.formula.specs.Formula.{term}
 use Rattle.ring_plan.specs.declared.RingPlan.{RingPlan}
 use Rattle.ring_plan.specs.Rings.{size_of, possible}
 use Rattle.script.specs.Listed.{listed}
+use Rattle.script.specs.declared.command.PlainCommand.{PlainCommand}
+use Rattle.script.specs.declared.command.PlainCommand.TheVariants as command
+use Rattle.script.specs.declared.command.FormulaCommand.{FormulaCommand}
+use Rattle.script.specs.declared.command.FormulaCommand.TheVariants.{Show, Add}
 use Rattle.answer.specs.declared.Answer.{Answer}
 use Rattle.answer.specs.declared.Answer.TheVariants as answer
 use Rattle.answer.specs.Formulas.{shown_formula, sum_of}
 use Rattle.answer.specs.Operated.{operated}
-use Rattle.answer.specs.Texts.{text_of_answer, text_of_formula, text_of_result}
-use Rattle.panel.specs.declared.command.Command.{Command}
-use Rattle.panel.specs.declared.command.Command.TheVariants as command
+use Rattle.answer.specs.Texts.{text_of_formula}
 use Rattle.panel.specs.Orders.{AnyOrder, meaning_of}
 
 -- what a plan answers: the number of codes of its ring, or a refusal
@@ -25,29 +27,28 @@ planned plan = cond (possible plan) (Ok (answer.Ring (size_of plan))) (Err RingS
 abbrev pub plan_after : RingPlan → RingPlan → RingPlan
 plan_after old plan = cond (possible plan) plan old
 
--- the line that a command answers where a ring and an order stand
-abbrev pub answer_of : CoefficientRing → TermOrder → Command → List ℕ
-answer_of ring order (command.Ring plan) = text_of_result (planned plan)
-answer_of ring order (command.Order new) = text_of_answer (answer.Order (meaning_of new).kind)
-answer_of ring order (command.Operation operation) = text_of_answer (operated ring operation)
-answer_of ring order (command.Compare a b) = text_of_answer (answer.Comparison (compared order (term a) (term b)))
-answer_of ring order (command.Show f) = text_of_formula ring.one (shown_formula ring order (listed f))
-answer_of ring order (command.Add a) = text_of_formula ring.one (sum_of ring order (listed a.formula) a.factor (listed a.line))
+-- what a command without formulas answers where a ring and an order stand
+abbrev pub answer_of : CoefficientRing → TermOrder → PlainCommand → Result Answer Refusal
+answer_of ring order (command.Ring plan) = planned plan
+answer_of ring order (command.Order new) = Ok (answer.Order (meaning_of new).kind)
+answer_of ring order (command.Operation operation) = Ok (operated ring operation)
+answer_of ring order (command.Compare a b) = Ok (answer.Comparison (compared order (term a) (term b)))
 
--- the plan of the ring that stands after a command
-abbrev pub ring_after : RingPlan → Command → RingPlan
+-- the line that a command with formulas answers
+abbrev pub formula_line_of : CoefficientRing → TermOrder → FormulaCommand → List ℕ
+formula_line_of ring order (Show f) = text_of_formula ring.one (shown_formula ring order (listed f))
+formula_line_of ring order (Add a) = text_of_formula ring.one (sum_of ring order (listed a.formula) a.factor (listed a.line))
+
+-- the plan of the ring that stands after a command without formulas; one with formulas changes nothing
+abbrev pub ring_after : RingPlan → PlainCommand → RingPlan
 ring_after old (command.Ring plan) = plan_after old plan
 ring_after old (command.Order new) = old
 ring_after old (command.Operation operation) = old
 ring_after old (command.Compare a b) = old
-ring_after old (command.Show f) = old
-ring_after old (command.Add a) = old
 
--- the order that stands after a command
-abbrev pub order_after : AnyOrder → Command → AnyOrder
+-- the order that stands after a command without formulas
+abbrev pub order_after : AnyOrder → PlainCommand → AnyOrder
 order_after old (command.Ring plan) = old
 order_after old (command.Order new) = new
 order_after old (command.Operation operation) = old
 order_after old (command.Compare a b) = old
-order_after old (command.Show f) = old
-order_after old (command.Add a) = old

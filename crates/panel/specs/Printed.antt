@@ -2,7 +2,8 @@
 use Rattle.std.specs.Prelude.{ℕ, List, [], ◌∷◌, ◌++◌, Some, None, Ok, Err, Option, Result, codes, decimal}
 use Rattle.script.specs.Faults.{text_of_fault}
 use Rattle.answer.specs.declared.Answer.{Answer}
-use Rattle.answer.specs.Texts.{text_of_answer, text_of_refusal}
+use Rattle.answer.specs.declared.FormulaAnswer.{FormulaAnswer}
+use Rattle.answer.specs.Texts.{text_of_answer, text_of_formula_answer, text_of_refusal}
 use Rattle.panel.specs.declared.failure.Failure.{Failure}
 use Rattle.panel.specs.declared.failure.Failure.TheVariants.{Fault, Refused}
 
@@ -16,3 +17,7 @@ printed line (Ok (Some answer)) = line_with (text_of_answer answer)
 printed line (Ok None) = []
 printed line (Err (Refused refusal)) = line_with (text_of_refusal refusal)
 printed line (Err (Fault fault)) = line_with (codes "error: line " ++ (decimal line ++ (codes ": " ++ text_of_fault fault)))
+
+-- what is printed of a formula
+abbrev pub printed_formula : FormulaAnswer → List ℕ
+printed_formula answer = line_with (text_of_formula_answer answer)

@@ -1,14 +1,16 @@
 //! From a line's words to its command.
-use crate::command::Command;
 use either::Either;
 use ring_plan::RingPlan;
-use script::{Addition, AnyOrder, Fault, Operation, PlainOrder, Words};
+use script::{
+    Addition, AnyOrder, Command, Fault, FormulaCommand, FormulaWords, Operation, PlainCommand,
+    PlainOrder, Words,
+};
 use term::{Lex, Reverse, Weight};
 
 const COMMENT: u8 = b'#';
 
 /// The command of a line; none for an empty line and for a comment.
-pub(crate) fn parse(line: &str) -> Result<Option<Command>, Fault> {
+pub(crate) fn parse(line: &str) -> Result<Option<Command<'_>>, Fault> {
     let bytes = line.as_bytes();
     if let [COMMENT, ..] = bytes {
         return Ok(None);
@@ -17,24 +19,51 @@ pub(crate) fn parse(line: &str) -> Result<Option<Command>, Fault> {
     let Some(name) = words.next() else {
         return Ok(None);
     };
-    let command = command(name, &mut words)?;
-    words.end()?;
+    if let Some(command) = plain_command(name, &mut words)? {
+        words.end()?;
+        return Ok(Some(Command::Plain(command)));
+    }
+    match name {
+        b"show" => Ok(Some(Command::Formula(FormulaWords::Show(words)))),
+        b"add" => Ok(Some(Command::Formula(FormulaWords::Add(words)))),
+        _ => Err(Fault::UnknownCommand),
+    }
+}
+
+/// The command of this name with the words in front that it takes, or none where no command without formulas has the name.
+fn plain_command(name: &[u8], words: &mut Words<'_>) -> Result<Option<PlainCommand>, Fault> {
+    if let Some(operation) = operation(name, words)? {
+        return Ok(Some(PlainCommand::Operation(operation)));
+    }
+    let command = match name {
+        b"ring" => PlainCommand::Ring(ring_plan(words)?),
+        b"order" => PlainCommand::Order(any_order(words)?),
+        b"compare" => PlainCommand::Compare(words.monomial()?, words.monomial()?),
+        _ => return Ok(None),
+    };
     Ok(Some(command))
 }
 
-/// The command of this name, with the words that it takes.
-fn command(name: &[u8], words: &mut Words<'_>) -> Result<Command, Fault> {
-    if let Some(operation) = operation(name, words)? {
-        return Ok(Command::Operation(operation));
+/// The command with formulas that these words write.
+pub(crate) fn formulas(words: FormulaWords<'_>) -> Result<FormulaCommand, Fault> {
+    match words {
+        FormulaWords::Show(words) => shown(words),
+        FormulaWords::Add(words) => added(words),
     }
-    match name {
-        b"ring" => Ok(Command::Ring(ring_plan(words)?)),
-        b"order" => Ok(Command::Order(any_order(words)?)),
-        b"compare" => Ok(Command::Compare(words.monomial()?, words.monomial()?)),
-        b"show" => Ok(Command::Show(words.formula()?)),
-        b"add" => Ok(Command::Add(addition(words)?)),
-        _ => Err(Fault::UnknownCommand),
-    }
+}
+
+/// The formula to show.
+fn shown(mut words: Words<'_>) -> Result<FormulaCommand, Fault> {
+    let list = words.formula()?;
+    words.end()?;
+    Ok(FormulaCommand::Show(list))
+}
+
+/// The sum to work out.
+fn added(mut words: Words<'_>) -> Result<FormulaCommand, Fault> {
+    let addition = addition(&mut words)?;
+    words.end()?;
+    Ok(FormulaCommand::Add(addition))
 }
 
 /// The ring's operation of this name with its codes, or none where no operation has the name.

@@ -1,18 +1,17 @@
 //! A session: what stands from one command of a script to the next.
 ghost use Rattle.std.specs.Prelude.{◌≡◌, OnErr};
 ghost use Rattle.ring_plan.specs.Rings.{meaning_of as ring_meaning, plan_of};
-ghost use Rattle.answer.specs.Texts.{text_of_result};
-ghost use Rattle.panel.specs.Answered.{answer_of, order_after, plan_after, planned, ring_after};
+ghost use Rattle.answer.specs.Texts.{text_of_formula_result};
+ghost use Rattle.panel.specs.Answered.{answer_of, formula_line_of, order_after, plan_after, planned, ring_after};
 ghost use Rattle.panel.specs.Orders.{first_order, meaning_of as order_meaning};
 
-use crate::command::Command;
-use answer::{Answer, add, compare, operate, show};
+use answer::{Answer, FormulaAnswer, add, compare, operate, show};
 use either::Either;
 use formula::PolynomialRing;
 use refusal::Refusal;
 use ring::Ring;
 use ring_plan::{AnyRing, RingPlan};
-use script::AnyOrder;
+use script::{AnyOrder, FormulaCommand, PlainCommand};
 use term::{Lex, Order};
 
 /// The number of codes of the ring that a script starts with.
@@ -39,20 +38,28 @@ impl Session {
         }
     }
 
-    /// Carries out a command. A refused one leaves the session as it was.
-    pub(crate) fn carry_out(&mut self, command: Command) -> Result<Answer, Refusal>
-        ensures answer { text_of_result result ≡ answer_of (ring_meaning self.old.polynomials.ring) (order_meaning self.old.polynomials.order) command }
+    /// Carries out a command without formulas. A refused one leaves the session as it was.
+    pub(crate) fn carry_out(&mut self, command: PlainCommand) -> Result<Answer, Refusal>
+        ensures answer { result ≡ answer_of (ring_meaning self.old.polynomials.ring) (order_meaning self.old.polynomials.order) command }
         ensures ring { plan_of self.new.polynomials.ring ≡ ring_after (plan_of self.old.polynomials.ring) command }
         ensures order { self.new.polynomials.order ≡ order_after self.old.polynomials.order command }
         ensures unchanged { OnErr result (self.new ≡ self.old) }
     {
         match command {
-            Command::Ring(plan) => self.open_ring(plan),
-            Command::Order(order) => Ok(self.open_order(order)),
-            Command::Operation(operation) => Ok(operate(&self.polynomials.ring, operation)),
-            Command::Compare(a, b) => Ok(compare(&self.polynomials.order, a, b)),
-            Command::Show(list) => show(&self.polynomials, &list),
-            Command::Add(addition) => add(&self.polynomials, &addition),
+            PlainCommand::Ring(plan) => self.open_ring(plan),
+            PlainCommand::Order(order) => Ok(self.open_order(order)),
+            PlainCommand::Operation(operation) => Ok(operate(&self.polynomials.ring, operation)),
+            PlainCommand::Compare(a, b) => Ok(compare(&self.polynomials.order, a, b)),
+        }
+    }
+
+    /// What a command with formulas answers.
+    pub(crate) fn formula(&self, command: &FormulaCommand) -> Result<FormulaAnswer, Refusal>
+        ensures { text_of_formula_result result ≡ formula_line_of (ring_meaning self.now.polynomials.ring) (order_meaning self.now.polynomials.order) command.now }
+    {
+        match command {
+            FormulaCommand::Show(list) => show(&self.polynomials, list),
+            FormulaCommand::Add(addition) => add(&self.polynomials, addition),
         }
     }
 

@@ -1,5 +1,5 @@
 -- Listing one monomial more, and the words of a formula.
-use Rattle.std.proofs.Common.{◌≡◌, ℕ, zero, suc, ◌<◌, ◌≤◌, Bool, true, false, cond, List, [], ◌∷◌, ◌++◌, length, take, Some, None, Ok, Err, Option, Result, sym, refl, ap, ◌∙◌, arith}
+use Rattle.std.proofs.Common.{◌≡◌, ℕ, zero, suc, ◌+◌, ◌<◌, ◌≤◌, Bool, true, false, cond, List, [], ◌∷◌, ◌++◌, length, take, set, Some, None, Ok, Err, Option, Result, sym, refl, ap, ◌∙◌, arith}
 use Rattle.term.specs.declared.monomial.Monomial.{Monomial}
 use Rattle.script.specs.declared.fault.Fault.{Fault}
 use Rattle.script.specs.Formulas.{after_part, left_after, left_from, in_front, is_byte, listed_from, monomials_in, part_word, unless_slash, words_as_monomials}
@@ -8,17 +8,19 @@ use Rattle.script.specs.Listed.{max_listed}
 use Rattle.script.specs.Words.{after_word, word}
 use Rattle.script.proofs.Scans.{word_shorter}
 use Rattle.script.proofs.Takes.{take_of_take}
-use Rattle.std.proofs.lemmas.List.{append_assoc, append-nil, length-append, take_all, take-append-le}
+use Rattle.std.proofs.lemmas.List.{append_assoc, append-nil, length-append, length-take, length-take-le, take_all, take-append-le, take_more_set}
 
 -- where there is room for it
-pub listed_more : (xs : List Monomial) (m : Monomial) → length xs < 65 → xs ++ m ∷ [] ≡ take max_listed (xs ++ m ∷ [])
-listed_more xs m h =
-    let few : length (xs ++ m ∷ []) ≤ 65 = simp length-append (omega arith) in
-    sym (take_all 65 (xs ++ m ∷ []) few)
+pub listed_more : {X : Type 0} (most n : ℕ) (xs : List X) (x : X) → length xs ≡ most → n < most → take (n + 1) (set xs n x) ≡ take most (take n xs ++ (x ∷ []))
+listed_more most n xs x e h =
+    let z : length (take n xs ++ (x ∷ [])) ≤ most = simp (length-append, length-take) (omega arith) in
+    take_more_set xs n x (omega arith) ∙ sym (take_all most (take n xs ++ (x ∷ [])) z)
 
 -- where there is none
-pub listed_full : (xs : List Monomial) (m : Monomial) → length xs ≡ 65 → xs ≡ take max_listed (xs ++ m ∷ [])
-listed_full xs m h = sym (take-append-le 65 xs (m ∷ []) (omega arith) ∙ take_all 65 xs (omega arith))
+pub listed_full : {X : Type 0} (most n : ℕ) (xs : List X) (x : X) → length xs ≡ most → n ≡ most → take n xs ≡ take most (take n xs ++ (x ∷ []))
+listed_full most n xs x e h =
+    let z : length (take n xs) ≡ n = length-take-le n xs (omega arith) in
+    sym (take-append-le most (take n xs) (x ∷ []) (omega arith) ∙ take_all most (take n xs) (omega arith))
 
 -- what is listed already, with what is left, as many as are kept
 abbrev pub listed_with : List Monomial → Result (List Monomial) Fault → Result (List Monomial) Fault

@@ -1,5 +1,5 @@
 -- The monomials that a line lists.
-use Rattle.std.specs.Prelude.{ℕ, List}
+use Rattle.std.specs.Prelude.{ℕ, List, take}
 use Rattle.term.specs.declared.monomial.Monomial.{Monomial}
 use Rattle.script.specs.declared.listing.Listing.{Listing}
 
@@ -9,4 +9,4 @@ max_listed = 65
 
 -- those that are kept
 abbrev pub listed : Listing → List Monomial
-listed l = l.items.items
+listed l = take l.len l.items

@@ -1,6 +1,7 @@
-//! Scripts of commands: their lines, the words of a line, and what a word writes.
+//! Scripts of commands: their lines, the words of a line, what a word writes, and the commands.
 #![tactic(auto)]
 
+mod command;
 mod decimal;
 mod fault;
 mod hexadecimal;
@@ -12,6 +13,7 @@ mod scan;
 mod tests;
 mod words;
 
+pub use command::{Command, FormulaCommand, FormulaWords, PlainCommand};
 pub use fault::Fault;
 pub use line::Line;
 pub use listing::Listing;

@@ -55,7 +55,8 @@ impl Line {
 
     /// The line as text; a fault exactly where it is too long, or else where its bytes are no UTF-8.
     pub fn text(&self) -> Result<&str, Fault>
-        ensures { MatchResult result (λ text. text.now ≡ self.now.bytes.items) (λ fault. NoText fault (is_too_long self.now.bytes.items) self.now.bytes.items) }
+        ensures text { MatchResult result (λ text. text.now ≡ self.now.bytes.items) (λ fault. NoText fault (is_too_long self.now.bytes.items) self.now.bytes.items) }
+        ensures short { IfOk result (λ text. is_too_long text.now ≡ false) }
     {
         if self.bytes.len() > MAX_LINE {
             return Err(Fault::LineTooLong);

@@ -24,7 +24,7 @@ pub enum Operation {
 }
 
 /// A sum that a script asks for: a formula plus a monomial times another.
-#[derive(Clone, Drop)]
+#[derive(Clone, Copy)]
 pub struct Addition {
     pub formula: Listing,
     pub factor: Monomial,

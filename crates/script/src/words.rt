@@ -24,7 +24,7 @@ const SLASH: u8 = b'/';
 const ZERO: u8 = b'0';
 
 /// What is left to read of a line.
-#[derive(Drop)]
+#[derive(Clone, Copy)]
 pub struct Words<'a> {
     rest: &'a [u8],
 }
